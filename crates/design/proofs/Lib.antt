@@ -1,0 +1,3 @@
+pub mod Firsts
+pub mod Checks
+pub mod Calls

@@ -1,0 +1,4 @@
+pub mod Faults
+pub mod Lists
+pub mod Design
+pub mod Laws
