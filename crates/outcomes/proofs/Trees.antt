@@ -8,7 +8,7 @@ use native.Mathlib.Omega.{arith}
 use lib.Dec.{T}
 use Rattle.outcomes.specs.Sums.{sum, product, others}
 use Rattle.outcomes.specs.Trees.{Tree, finished, branching, Sample, weight, expect, weightOf, Average, HasWays, Every, Lawful}
-use Rattle.outcomes.proofs.Sums.{sum-same, sum-add, sum-scale, sum-times, sum-constant, sum-above, product-positive, others-times, others-positive}
+use Rattle.outcomes.proofs.Sums.{sum-same, sum-add, sum-scale, sum-times, sum-constant, sum-above, product-positive, product-ones, others-times, others-positive}
 
 -- ---- the total weight is above 0
 pub positive : {A : Type 0} (t : Tree A) → HasWays t → 0 < weight t
@@ -145,3 +145,13 @@ average-one X num num′ den t s h h′ = eq-of-mul-eq-mul-right (weight t) (pos
 pub lawful-ways : (units : ℕ) (t : Tree Sample) → Lawful units t → HasWays t
 lawful-ways units (finished u) h = tt
 lawful-ways units (branching m sub) h = (h .0, λ d l. lawful-ways units (sub d) (h .2 d l))
+
+-- ---- one throw
+pub one-throw-weight : {A : Type 0} (m : ℕ) (f : ℕ → A) → weight (branching m (λ d. finished (f d))) ≡ m
+unfolding weight
+one-throw-weight m f = omega (arith, ap (λ x. m * x) (product-ones m))
+
+pub one-throw-expect : {A : Type 0} (X : A → ℕ) (m : ℕ) (f : ℕ → A) → expect X (branching m (λ d. finished (f d))) ≡ sum m (λ d. X (f d))
+unfolding weight expect
+one-throw-expect X m f = sum-same m (λ d. X (f d) * others m (λ e. 1) d) (λ d. X (f d))
+    (λ d l. omega (arith, ap (λ x. X (f d) * x) (others-times m (λ e. 1) d l), ap (λ x. X (f d) * x) (product-ones m)))

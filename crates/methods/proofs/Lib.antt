@@ -1,0 +1,4 @@
+pub mod Goals
+pub mod Plans
+pub mod Holdings
+pub mod Systematics

@@ -1,0 +1,160 @@
+-- The tree of systematic drawing: what a throw takes, and that the shares are exact.
+use mathlib.Core.Path.{_≡_, refl, sym, ap, subst, fun-ext, _∙_}
+use mathlib.Core.Bool.{Bool, true, false, cond, false≢true, _&&_}
+use mathlib.Core.List.{List}
+use mathlib.Core.Logic.{_⊎_, inl, inr, _↔_}
+use Prim.Native.Nat.{ℕ, zero, suc, _+_, _*_, _≤_, _<_}
+use native.Mathlib.Nat.{mul-le-mul-right, mul-comm}
+use native.Mathlib.Decide.{ℕ-discrete}
+use native.Mathlib.Omega.{arith}
+use lib.Dec.{T, eqb, leb, ltb}
+use lib.ListN.{length, getD}
+use Rattle.std.proofs.shelf.Tests.{eq-eqb, ne-eqb, leb-true, ltb-true, le-leb, lt-ltb, le-ltb, and-parts, and-from, or-cases, or-left, or-right, cases-lt}
+use Rattle.std.proofs.shelf.Lists.{getD-past}
+use Rattle.outcomes.specs.Trees.{finished, Share, Lawful, weight, expect, subtree}
+use Rattle.outcomes.specs.Counting.{Among}
+use Rattle.outcomes.proofs.Trees.{one-throw-weight, one-throw-expect}
+use Rattle.outcomes.proofs.Counting.{counting}
+use Rattle.design.specs.Lists.{total}
+use Rattle.design.specs.declared.row.Row.{Row}
+use Rattle.methods.specs.Plain.{goals}
+use Rattle.methods.specs.Systematic.{some, among, numbersFrom, struck, systematic}
+use Rattle.methods.specs.Holdings.{Within, takenOf}
+use Rattle.methods.specs.SystematicRuns.{systematicTree, Settled, Held, Struck}
+use Rattle.methods.specs.Laws.{SystematicTakes, SystematicSound}
+use Rattle.methods.proofs.Goals.{Fine, goals-long, goal-most, total-some}
+use Rattle.methods.proofs.Plans.{plain-sound}
+use Rattle.methods.proofs.Holdings.{no-way}
+
+-- ---- the test of a unit's numbers
+some-from : (n j : ℕ) (p : ℕ → Bool) → j < n → p j ≡ true → some n p ≡ true
+some-from zero j p l e = absurd (omega arith)
+some-from (suc n) j p l e = elim (ℕ-discrete j n) [
+  | yes same ↦ or-right (some n p) (p n) (ap p (sym same) ∙ e)
+  | no other ↦ or-left (some n p) (p n) (some-from n j p (omega arith) e)
+]
+
+some-to : (n : ℕ) (p : ℕ → Bool) → some n p ≡ true → (j : ℕ) × (p j ≡ true)
+some-to zero p e = absurd (false≢true e)
+some-to (suc n) p e = elim (or-cases (some n p) (p n) e) [ inl f ↦ some-to n p f | inr f ↦ (n, f) ]
+
+pub among-is : (all low goal r : ℕ) → 0 < all → (among all low goal r ≡ true) ↔ Among all low goal r
+among-is all low goal r l = (
+  λ h. let t = some-to (low + goal) (λ j. leb low (r + j * all) && ltb (r + j * all) (low + goal)) h in
+      let p = and-parts (leb low (r + t .0 * all)) (ltb (r + t .0 * all) (low + goal)) (t .1) in
+      (t .0, leb-true low (r + t .0 * all) (p .0), ltb-true (r + t .0 * all) (low + goal) (p .1)),
+  λ h. let j : ℕ = h .0 in
+      let small : j < low + goal = omega (arith, h .2, mul-le-mul-right j l) in
+      some-from (low + goal) j (λ j. leb low (r + j * all) && ltb (r + j * all) (low + goal)) small
+      (and-from (leb low (r + j * all)) (ltb (r + j * all) (low + goal)) (le-leb low (r + j * all) (h .1)) (lt-ltb (r + j * all) (low + goal) (h .2))),
+)
+
+pub systematic-takes : SystematicTakes
+systematic-takes all goals r k some = among-is all (numbersFrom goals k) (getD goals k 0) r some
+
+-- ---- before the throw
+fair-first : (all : ℕ) (goals : List ℕ) (k : ℕ) → 0 < all → Within all goals → k < length goals → Share k (getD goals k 0) all (systematic all goals)
+unfolding systematic
+fair-first all goals k some within l =
+    let goal : ℕ = getD goals k 0 in
+    ap (λ x. goal * x) (one-throw-weight all (λ r k. struck all goals r k))
+    ∙ mul-comm goal all
+    ∙ ap (λ x. all * x)
+    (sym
+    (one-throw-expect (λ u. cond (u k) 1 0) all (λ r k. struck all goals r k)
+    ∙ counting all (numbersFrom goals k) goal (within k l) (λ r. struck all goals r k) (λ r lr. systematic-takes all goals r k some)))
+
+past-none : (all : ℕ) (goals : List ℕ) (r k : ℕ) → 0 < all → length goals ≤ k → struck all goals r k ≡ false
+past-none all goals r k some l = by (struck all goals r k) refl
+  where
+    by : (b : Bool) → struck all goals r k ≡ b → b ≡ false
+    by true e =
+        let t : Among all (numbersFrom goals k) (getD goals k 0) r = systematic-takes all goals r k some .0 e in
+        absurd (omega (arith, t .1, t .2, getD-past goals k 0 l))
+    by false e = refl
+
+lawful-first : (all : ℕ) (goals : List ℕ) → 0 < all → all ≤ 10240000 → Lawful (length goals) (systematic all goals)
+unfolding systematic
+lawful-first all goals some few =
+    (some, few, λ r lr k t. elim (cases-lt k (length goals)) [ inl l ↦ l | inr l ↦ absurd (subst T (past-none all goals r k some l) t) ])
+
+-- ---- after the throw
+pub stepped : (all : ℕ) (before after : List ℕ) (r : ℕ) → 0 < all → Struck all before r after
+    → systematicTree all after true ≡ subtree (systematicTree all before false) r
+unfolding systematic
+stepped all before after r some s = ap finished (fun-ext (λ k. one k))
+  where
+    pick : (b : Bool) → eqb (cond b all 0) all ≡ b
+    pick true = eq-eqb all all refl
+    pick false = ne-eqb 0 all (omega arith)
+
+    one : (k : ℕ) → takenOf all after (length after) k ≡ struck all before r k
+    one k = elim (cases-lt k (length after)) [
+      | inl l ↦
+          ap (λ t. cond t (eqb (getD after k 0) all) false) (lt-ltb k (length after) l)
+          ∙ ap (λ x. eqb x all) (s .1 k (omega (arith, s .0))) ∙ pick (struck all before r k)
+      | inr l ↦
+          ap (λ t. cond t (eqb (getD after k 0) all) false) (le-ltb k (length after) l)
+          ∙ sym (past-none all before r k some (omega (arith, s .0)))
+    ]
+
+pub held-struck : (all : ℕ) (before after : List ℕ) (r : ℕ) (thrown : Bool) → Held all before thrown → Struck all before r after → Held all after true
+held-struck all before after r thrown h s = (
+  h .0,
+  h .1,
+  omega (arith, h .2, s .0),
+  λ k l. subst (λ x. x ≤ all) (sym (s .1 k (omega (arith, s .0)))) (low (struck all before r k)),
+  λ _ k l u. s .1 k (omega (arith, s .0)) ∙ none (struck all before r k) (subst (λ x. x < all) (s .1 k (omega (arith, s .0))) u),
+)
+  where
+    low : (b : Bool) → cond b all 0 ≤ all
+    low true = omega arith
+    low false = omega arith
+
+    none : (b : Bool) → cond b all 0 < all → cond b all 0 ≡ 0
+    none true l = absurd (omega arith)
+    none false l = refl
+
+fair-last : (all : ℕ) (holds : List ℕ) (k : ℕ) → Within all holds → Settled all holds → k < length holds
+    → Share k (getD holds k 0) all (finished (takenOf all holds (length holds)))
+unfolding weight expect
+fair-last all holds k within settled l = by (ltb k (length holds)) (lt-ltb k (length holds) l) (cases-lt (getD holds k 0) all)
+  where
+    by : (b : Bool) → b ≡ true → (getD holds k 0 < all) ⊎ (all ≤ getD holds k 0) → getD holds k 0 * 1 ≡ all * cond (cond b (eqb (getD holds k 0) all) false) 1 0
+    by false e c = no-way (sym e)
+    by true e (inl u) =
+        let z : getD holds k 0 ≡ 0 = settled k l u in
+        let f : eqb (getD holds k 0) all ≡ false = ne-eqb (getD holds k 0) all (omega arith) in
+        omega (arith, z, ap (λ t. all * cond t 1 0) f)
+    by true e (inr u) =
+        let z : getD holds k 0 ≡ all = omega (arith, within k l) in
+        let f : eqb (getD holds k 0) all ≡ true = eq-eqb (getD holds k 0) all z in
+        omega (arith, z, ap (λ t. all * cond t 1 0) f)
+
+-- ---- before and after
+pub fair : (all : ℕ) (holds : List ℕ) (thrown : Bool) (k : ℕ) → Held all holds thrown → k < length holds → Share k (getD holds k 0) all (systematicTree all holds thrown)
+fair all holds false k h l = fair-first all holds k (h .0) (h .3) l
+fair all holds true k h l = fair-last all holds k (h .3) (h .4 refl) l
+
+pub lawful : (all : ℕ) (holds : List ℕ) (thrown : Bool) → Held all holds thrown → Lawful (length holds) (systematicTree all holds thrown)
+lawful all holds false h = lawful-first all holds (h .0) (h .1)
+lawful all holds true h = λ k t. only k (ltb k (length holds)) refl t
+  where
+    only : (k : ℕ) (b : Bool) → ltb k (length holds) ≡ b → T (cond b (eqb (getD holds k 0) all) false) → k < length holds
+    only k true e t = ltb-true k (length holds) e
+    only k false e t = absurd t
+
+-- ---- the plan
+pub held-start : (list : List Row) (n : ℕ) → Fine list n → Held (total list) (goals list n) false
+held-start list n f = (
+  total-some list n f,
+  f .checks .small,
+  omega (arith, goals-long list n, f .checks .few-rows),
+  λ k l. goal-most list n k f (subst (λ x. k < x) (goals-long list n) l),
+  λ e. no-way (sym e),
+)
+
+pub systematic-sound : SystematicSound
+systematic-sound list n = plain-sound list n (systematic (total list) (goals list n))
+    (λ f. subst (λ x. Lawful x (systematic (total list) (goals list n))) (goals-long list n) (lawful (total list) (goals list n) false (held-start list n f)))
+    (λ f k l. fair (total list) (goals list n) false k (held-start list n f) (subst (λ x. k < x) (sym (goals-long list n)) l))

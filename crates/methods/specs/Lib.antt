@@ -1,0 +1,5 @@
+pub mod Plain
+pub mod Systematic
+pub mod Holdings
+pub mod SystematicRuns
+pub mod Laws
