@@ -1,14 +1,16 @@
 -- The tree of systematic drawing: what a throw takes, and that the shares are exact.
-use mathlib.Core.Path.{_≡_, refl, sym, ap, subst, fun-ext, _∙_}
+use mathlib.Core.Path.{_≡_, refl, sym, ap, ap₂, subst, fun-ext, _∙_}
 use mathlib.Core.Bool.{Bool, true, false, cond, false≢true, _&&_}
 use mathlib.Core.List.{List}
-use mathlib.Core.Logic.{_⊎_, inl, inr, _↔_}
+use mathlib.Core.Logic.{_⊎_, inl, inr, _↔_, ∥∥₁-elim}
 use Prim.Native.Nat.{ℕ, zero, suc, _+_, _*_, _≤_, _<_}
 use native.Mathlib.Nat.{mul-le-mul-right, mul-comm}
 use native.Mathlib.Decide.{ℕ-discrete}
 use native.Mathlib.Omega.{arith}
+use denote.Struct.Props.{props}
 use lib.Dec.{T, eqb, leb, ltb}
 use lib.ListN.{length, getD}
+use Rattle.std.specs.declared.result.Result.the-variants.{Ok}
 use Rattle.std.proofs.shelf.Tests.{eq-eqb, ne-eqb, leb-true, ltb-true, le-leb, lt-ltb, le-ltb, and-parts, and-from, or-cases, or-left, or-right, cases-lt}
 use Rattle.std.proofs.shelf.Lists.{getD-past}
 use Rattle.outcomes.specs.Trees.{finished, Share, Lawful, weight, expect, subtree}
@@ -17,13 +19,14 @@ use Rattle.outcomes.proofs.Trees.{one-throw-weight, one-throw-expect}
 use Rattle.outcomes.proofs.Counting.{counting}
 use Rattle.design.specs.Lists.{total}
 use Rattle.design.specs.declared.row.Row.{Row}
-use Rattle.methods.specs.Plain.{goals}
-use Rattle.methods.specs.Systematic.{some, among, numbersFrom, struck, systematic}
-use Rattle.methods.specs.Holdings.{Within, takenOf}
+use Rattle.design.specs.Design.{Standing, in-run, Began, waysOf, below}
+use Rattle.methods.specs.Plain.{goals, plainRun}
+use Rattle.methods.specs.Systematic.{some, among, numbersFrom, struck, systematic, systematicPlan}
+use Rattle.methods.specs.Holdings.{standing, Within, takenOf}
 use Rattle.methods.specs.SystematicRuns.{systematicTree, Settled, Held, Struck}
 use Rattle.methods.specs.Laws.{SystematicTakes, SystematicSound}
-use Rattle.methods.proofs.Goals.{Fine, goals-long, goal-most, total-some}
-use Rattle.methods.proofs.Plans.{plain-sound}
+use Rattle.methods.proofs.Goals.{Fine, fine, goals-long, goal-most, total-some}
+use Rattle.methods.proofs.Plans.{Prepared, prepared, plain-sound, plain-begun}
 use Rattle.methods.proofs.Holdings.{no-way}
 
 -- ---- the test of a unit's numbers
@@ -158,3 +161,49 @@ pub systematic-sound : SystematicSound
 systematic-sound list n = plain-sound list n (systematic (total list) (goals list n))
     (λ f. subst (λ x. Lawful x (systematic (total list) (goals list n))) (goals-long list n) (lawful (total list) (goals list n) false (held-start list n f)))
     (λ f k l. fair (total list) (goals list n) false k (held-start list n f) (subst (λ x. k < x) (sym (goals-long list n)) l))
+
+-- ---- the fact of the ghost field
+held-one : (all : ℕ) (holds : List ℕ) (thrown running : Bool) → IsProp (running ≡ true → Held all holds thrown)
+held-one all holds thrown running = search props depth 9
+
+pub held : (all : ℕ) (holds : List ℕ) (thrown running : Bool) → ∥ (running ≡ true → Held all holds thrown) ∥₁ → running ≡ true → Held all holds thrown
+held all holds thrown running h = ∥∥₁-elim h (held-one all holds thrown running) (λ x. x)
+
+-- ---- the calls
+abbrev pub at : Bool → ℕ → List ℕ → Bool → Standing
+at running all holds thrown = standing running all holds (systematicTree all holds thrown)
+
+pub ways-at : (running : Bool) (all : ℕ) (holds : List ℕ) (thrown : Bool) → running ≡ true → thrown ≡ false → all ≡ waysOf (at running all holds thrown)
+unfolding systematic
+ways-at true all holds false e f = refl
+ways-at true all holds true e f = no-way f
+ways-at false all holds thrown e f = no-way (sym e)
+
+-- a run with m ways is one before its throw
+pub record Open (running : Bool) (all : ℕ) (holds : List ℕ) (thrown : Bool) (m : ℕ) : Type 0 where
+  pub unthrown : thrown ≡ false
+  pub whole : m ≡ all
+  pub holding : Held all holds thrown
+
+pub open-at : (running : Bool) (all : ℕ) (holds : List ℕ) (thrown : Bool) (m : ℕ) → ∥ (running ≡ true → Held all holds thrown) ∥₁
+    → m ≡ waysOf (at running all holds thrown) → ¬ (m ≡ 0) → Open running all holds thrown m
+unfolding systematic
+open-at true all holds false m h e some = record { unthrown = refl; whole = e; holding = held all holds false true h refl }
+open-at true all holds true m h e some = absurd (some e)
+open-at false all holds thrown m h e some = absurd (some e)
+
+pub step-at : (running : Bool) (all : ℕ) (before after : List ℕ) (thrown : Bool) (r : ℕ) → thrown ≡ false → 0 < all → Struck all before r after
+    → at running all after true ≡ below (at running all before thrown) r
+step-at true all before after false r e some s = ap₂ (λ tr un. in-run (plainRun all un tr)) (stepped all before after r some s) (s .0)
+step-at true all before after true r e some s = no-way e
+step-at false all before after thrown r e some s = refl
+
+pub held-begun : (list : List Row) (n : ℕ) (items : List ℕ) (all : ℕ) → Prepared list n items all → Held all items false
+held-begun list n items all p =
+    let a = prepared list n items all p in
+    subst (λ x. Held x items false) (sym (a .1 .0)) (subst (λ xs. Held (total list) xs false) (sym (a .1 .1)) (held-start list n (fine list n (a .0))))
+
+pub begun : {U : Type 0} (list : List Row) (n : ℕ) (items : List ℕ) (all : ℕ) (u : U) → Prepared list n items all
+    → Began {U = U} (systematicPlan list n) (Ok u) (at true all items false)
+begun list n items all u p =
+    plain-begun list n items all (systematic all items) (systematic (total list) (goals list n)) u p (λ et ei. ap₂ (λ x xs. systematic x xs) et ei)

@@ -5,5 +5,4 @@ ghost use Rattle.methods.specs.Laws.{SystematicTakes, SystematicSound};
 pub fn methods_stand()
     ensures systematic_takes { λ _. ⌜ SystematicTakes ⌝ }
     ensures systematic_sound { λ _. ⌜ SystematicSound ⌝ }
-{
-}
+{}

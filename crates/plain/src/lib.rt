@@ -1,0 +1,3 @@
+//! The plain designs.
+mod prepare;
+pub mod systematic;
