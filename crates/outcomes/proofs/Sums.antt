@@ -59,6 +59,11 @@ sum-two a zero x y =
     rw add-zero (sum-same a (λ d. cond (ltb d a) x y) (λ d. x) (λ d l. ap (λ t. cond t x y) (lt-ltb d a l)) ∙ sum-constant a x ∙ omega arith)
 sum-two a (suc b) x y = rw add-suc (omega (arith, sum-two a b x y, ap (λ t. cond t x y) (le-ltb (a + b) a (omega arith))))
 
+-- the first a, and then the b others
+pub sum-split : (a b : ℕ) (f : ℕ → ℕ) → sum (a + b) f ≡ sum a f + sum b (λ i. f (a + i))
+sum-split a zero f = rw add-zero (omega arith)
+sum-split a (suc b) f = rw add-suc (omega (arith, sum-split a b f))
+
 pub sum-swap : (n m : ℕ) (f : ℕ → ℕ → ℕ) → sum n (λ i. sum m (λ j. f i j)) ≡ sum m (λ j. sum n (λ i. f i j))
 sum-swap zero m f = sym (sum-zero m (λ j. 0) (λ j l. refl))
 sum-swap (suc n) m f = omega (arith, sum-swap n m f, sum-add m (λ j. sum n (λ i. f i j)) (λ j. f n j))
