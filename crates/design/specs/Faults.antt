@@ -1,8 +1,10 @@
 -- Faults by their published numbers.
 use mathlib.Core.Path.{_≡_}
 use mathlib.Core.Bool.{Bool, true, false}
-use mathlib.Core.List.{List, [], _∷_}
+use mathlib.Core.List.{List, [], _∷_, _++_}
 use Prim.Native.Nat.{ℕ}
+use lib.Chars.{codes}
+use Rattle.std.specs.Written.{decimal}
 use Rattle.std.specs.declared.option.Option.{Option}
 use Rattle.std.specs.declared.option.Option.the-variants.{Some, None}
 use Rattle.std.specs.declared.result.Result.{Result}
@@ -34,6 +36,10 @@ pub record Refusal : Type 0 where
 -- a fault by its published number
 abbrev pub numbered : Fault → Refusal
 numbered f = record { number = numberOf (f .reason); row = f .row; depth = f .depth }
+
+-- how a fault is written for people
+abbrev pub faultText : Fault → List ℕ
+faultText f = codes "fault " ++ (decimal (numberOf (f .reason)) ++ (codes " at row " ++ (decimal (f .row) ++ (codes ", depth " ++ decimal (f .depth)))))
 
 -- the refusal with this number at a row, by the call itself
 abbrev pub refusalAt : ℕ → ℕ → Refusal

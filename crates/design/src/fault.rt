@@ -1,8 +1,11 @@
 ghost use mathlib.Core.Path.{_≡_};
-ghost use Rattle.design.specs.Faults.{numberOf, numbered, refusalAt};
+ghost use Rattle.design.specs.Faults.{numberOf, numbered, refusalAt, faultText};
+ghost use Rattle.std.specs.declared.option.Option.the-variants.{Some};
+use std::error::Error;
+use std::fmt;
 
 /// Why a call was refused. Each reason has a published number.
-#[derive(Clone, Copy)]
+#[derive(Clone, Copy, PartialEq, Eq, Debug)]
 pub enum Reason {
     EmptyList,
     TooManyRows,
@@ -18,7 +21,7 @@ pub enum Reason {
 }
 
 /// A refusal: its reason, the row concerned (0 where none is), and how many layers have passed it upward.
-#[derive(Clone, Copy)]
+#[derive(Clone, Copy, PartialEq, Eq, Debug)]
 pub struct Fault {
     pub reason: Reason,
     pub row: u32,
@@ -65,3 +68,16 @@ impl Fault {
         }
     }
 }
+
+pub impl fmt::Display for Fault as FaultDisplay {
+    ghost shown = { λ f. Some (faultText f) };
+
+    fn fmt<W: fmt::Write>(&self, f: &mut fmt::Formatter<W>) -> fmt::Result {
+        let number = self.reason.number();
+        let row = self.row;
+        let depth = self.depth;
+        write!(f, "fault {number} at row {row}, depth {depth}")
+    }
+}
+
+pub impl Error for Fault as FaultError {}
