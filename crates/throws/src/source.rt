@@ -54,9 +54,7 @@ impl Xorshift32 {
     pub fn new(seed: u32, count: u32) -> Xorshift32
         ensures { λ r. ⌜ generated r ≡ generator seed count ⌝ }
     {
-        if seed == 0 {
-            return Xorshift32 { state: 0, count: 0 };
-        }
+        let count = if seed == 0 { 0 } else { count };
         Xorshift32 { state: seed, count }
     }
 }
