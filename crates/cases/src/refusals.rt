@@ -8,9 +8,9 @@ mod tests {
     use design::fault::FaultPartialEq;
     use design::fault::Reason;
     use design::row::Row;
-    use plain::systematic::Systematic;
-    use plain::systematic::SystematicDesign;
     use std::test::*;
+    use systematic::Systematic;
+    use systematic::SystematicDesign;
 
     // What begin answers after an accepted one, and whether a run then stands.
     fn begun(s: &mut Systematic, list: &[Row], n: u32) -> (Result<(), Fault>, bool) {

@@ -5,9 +5,9 @@ mod tests {
     use design::fault::Fault;
     use design::fault::FaultDebug;
     use design::fault::FaultPartialEq;
-    use plain::systematic::Systematic;
-    use plain::systematic::SystematicDesign;
     use std::test::*;
+    use systematic::Systematic;
+    use systematic::SystematicDesign;
 
     type Shares = [Result<(u64, u64), Fault>; 3];
 

@@ -9,14 +9,15 @@ use lib.Dec.{eqb, ltb}
 use lib.ListN.{length, getD}
 use Rattle.std.specs.declared.option.Option.{Option}
 use Rattle.std.specs.declared.option.Option.the-variants.{Some, None}
-use Rattle.std.specs.declared.result.Result.the-variants.{Ok, Err}
+use Rattle.std.specs.declared.result.Result.the-variants.{Ok}
 use Rattle.outcomes.specs.Trees.{Tree, Sample, Share, Lawful}
-use Rattle.design.specs.Faults.{Refusal, Answers, orElse, refusedIf, refusedAt}
+use Rattle.design.specs.Faults.{Refusal, orElse, refusedIf, refusedAt}
 use Rattle.design.specs.Lists.{first, noSize, passes, total}
 use Rattle.design.specs.Design.{in-run, Began, SoundPlan}
 use Rattle.design.specs.declared.row.Row.{Row}
-use Rattle.design.proofs.Firsts.{accepted, first-below}
+use Rattle.design.proofs.Firsts.{first-below}
 use Rattle.methods.specs.Plain.{goals, aboveTotal, plainRefusal, plainRun, planOf, plainPlan}
+use Rattle.methods.specs.Holdings.{standing}
 use Rattle.methods.proofs.Goals.{Fine, fine, goals-long, goal-some, goal-most}
 
 -- ---- a refusal names row 0 or a row of the list
@@ -66,20 +67,23 @@ plain-sound list n t lawful fair = cases (plainRefusal list n) refl
           fair = λ k l. fair f k l;
         }
 
--- what the preparation of an accepted list says
-abbrev pub Prepared : List Row → ℕ → List ℕ → ℕ → Type 0
-Prepared list n items all = Answers {A = ℕ} (plainRefusal list n) (λ t. (t ≡ total list) × (items ≡ goals list n)) (Ok all)
+-- what the preparation of an accepted list leaves: no refusal, the total and the goals
+pub record Prepared (list : List Row) (n all : ℕ) (items : List ℕ) : Type 0 where
+  pub accepts : plainRefusal list n ≡ None
+  pub all-is : all ≡ total list
+  pub items-are : items ≡ goals list n
 
-pub prepared : (list : List Row) (n : ℕ) (items : List ℕ) (all : ℕ) → Prepared list n items all → (plainRefusal list n ≡ None) × ((all ≡ total list) × (items ≡ goals list n))
-prepared list n items all p = accepted (plainRefusal list n) (λ t. (t ≡ total list) × (items ≡ goals list n)) all p
+-- what holds of total and goals of a list without refusal holds of what is prepared
+pub prepared-fine : (list : List Row) (n all : ℕ) (items : List ℕ) → Prepared list n all items → (P : ℕ → List ℕ → Type 0) → (Fine list n → P (total list) (goals list n)) → P all items
+prepared-fine list n all items p P h =
+    subst (λ x. P x items) (sym (p .all-is)) (subst (λ xs. P (total list) xs) (sym (p .items-are)) (h (fine list n (p .accepts))))
 
-pub plain-begun : {U : Type 0} (list : List Row) (n : ℕ) (items : List ℕ) (all : ℕ) (present first : Tree Sample) (u : U) → Prepared list n items all
-    → (all ≡ total list → items ≡ goals list n → present ≡ first)
-    → Began {U = U} (plainPlan list n first) (Ok u) (in-run (plainRun all (length items) present))
-plain-begun {U} list n items all present first u p same =
-    let a = prepared list n items all p in
-    let is : in-run (plainRun all (length items) present) ≡ in-run (plainRun (total list) (length list) first) =
-    ap₂ (λ tr un. in-run (plainRun all un tr)) (same (a .1 .0) (a .1 .1)) (ap length (a .1 .1) ∙ goals-long list n)
-    ∙ ap (λ x. in-run (plainRun x (length list) first)) (a .1 .0) in
-    subst (λ o. Began {U = U} (planOf o (λ k. getD (goals list n) k 0) (plainRun (total list) (length list) first)) (Ok u) (in-run (plainRun all (length items) present)))
-    (sym (a .0)) is
+pub plain-begun : {U : Type 0} (list : List Row) (n : ℕ) (running : Bool) (all : ℕ) (items : List ℕ) (present first : Tree Sample) (u : U) → Prepared list n all items
+    → running ≡ true → (all ≡ total list → items ≡ goals list n → present ≡ first)
+    → Began {U = U} (plainPlan list n first) (Ok u) (standing running all items present)
+plain-begun {U} list n running all items present first u p e same =
+    subst (λ o. Began {U = U} (planOf o (λ k. getD (goals list n) k 0) (plainRun (total list) (length list) first)) (Ok u) (standing running all items present))
+    (sym (p .accepts))
+    (ap (λ b. standing b all items present) e
+    ∙ ap₂ (λ tr un. in-run (plainRun all un tr)) (same (p .all-is) (p .items-are)) (ap length (p .items-are) ∙ goals-long list n)
+    ∙ ap (λ x. in-run (plainRun x (length list) first)) (p .all-is))

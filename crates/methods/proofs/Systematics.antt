@@ -25,8 +25,8 @@ use Rattle.methods.specs.Systematic.{some, among, numbersFrom, struck, systema
 use Rattle.methods.specs.Holdings.{standing, Within, takenOf}
 use Rattle.methods.specs.SystematicRuns.{systematicTree, Settled, Held, Struck}
 use Rattle.methods.specs.Laws.{SystematicTakes, SystematicSound}
-use Rattle.methods.proofs.Goals.{Fine, fine, goals-long, goal-most, total-some}
-use Rattle.methods.proofs.Plans.{Prepared, prepared, plain-sound, plain-begun}
+use Rattle.methods.proofs.Goals.{Fine, goals-long, goal-most, total-some}
+use Rattle.methods.proofs.Plans.{Prepared, prepared-fine, plain-sound, plain-begun}
 use Rattle.methods.proofs.Holdings.{no-way}
 
 -- ---- the test of a unit's numbers
@@ -101,8 +101,8 @@ stepped all before after r some s = ap finished (fun-ext (λ k. one k))
           ∙ sym (past-none all before r k some (omega (arith, s .0)))
     ]
 
-pub held-struck : (all : ℕ) (before after : List ℕ) (r : ℕ) (thrown : Bool) → Held all before thrown → Struck all before r after → Held all after true
-held-struck all before after r thrown h s = (
+pub held-struck : (all : ℕ) (before : List ℕ) (thrown : Bool) (all′ : ℕ) (after : List ℕ) (r : ℕ) → all′ ≡ all → Held all before thrown → Struck all before r after → Held all′ after true
+held-struck all before thrown all′ after r e h s = subst (λ x. Held x after true) (sym e) (
   h .0,
   h .1,
   omega (arith, h .2, s .0),
@@ -166,8 +166,8 @@ systematic-sound list n = plain-sound list n (systematic (total list) (goals lis
 held-one : (all : ℕ) (holds : List ℕ) (thrown running : Bool) → IsProp (running ≡ true → Held all holds thrown)
 held-one all holds thrown running = search props depth 9
 
-pub held : (all : ℕ) (holds : List ℕ) (thrown running : Bool) → ∥ (running ≡ true → Held all holds thrown) ∥₁ → running ≡ true → Held all holds thrown
-held all holds thrown running h = ∥∥₁-elim h (held-one all holds thrown running) (λ x. x)
+pub holding : (all : ℕ) (holds : List ℕ) (thrown running : Bool) → ∥ (running ≡ true → Held all holds thrown) ∥₁ → running ≡ true → Held all holds thrown
+holding all holds thrown running h = ∥∥₁-elim h (held-one all holds thrown running) (λ x. x)
 
 -- ---- the calls
 abbrev pub at : Bool → ℕ → List ℕ → Bool → Standing
@@ -188,22 +188,24 @@ pub record Open (running : Bool) (all : ℕ) (holds : List ℕ) (thrown : Bool) 
 pub open-at : (running : Bool) (all : ℕ) (holds : List ℕ) (thrown : Bool) (m : ℕ) → ∥ (running ≡ true → Held all holds thrown) ∥₁
     → m ≡ waysOf (at running all holds thrown) → ¬ (m ≡ 0) → Open running all holds thrown m
 unfolding systematic
-open-at true all holds false m h e some = record { unthrown = refl; whole = e; holding = held all holds false true h refl }
+open-at true all holds false m h e some = record { unthrown = refl; whole = e; holding = holding all holds false true h refl }
 open-at true all holds true m h e some = absurd (some e)
 open-at false all holds thrown m h e some = absurd (some e)
 
-pub step-at : (running : Bool) (all : ℕ) (before after : List ℕ) (thrown : Bool) (r : ℕ) → thrown ≡ false → 0 < all → Struck all before r after
-    → at running all after true ≡ below (at running all before thrown) r
-step-at true all before after false r e some s = ap₂ (λ tr un. in-run (plainRun all un tr)) (stepped all before after r some s) (s .0)
-step-at true all before after true r e some s = no-way e
-step-at false all before after thrown r e some s = refl
+-- after the throw: `running′` and `all′` are the run's as it stands then
+pub step-at : (running : Bool) (all : ℕ) (before : List ℕ) (thrown : Bool) (running′ : Bool) (all′ : ℕ) (after : List ℕ) (r : ℕ) → running′ ≡ running → all′ ≡ all
+    → thrown ≡ false → 0 < all → Struck all before r after → at running′ all′ after true ≡ below (at running all before thrown) r
+step-at running all before thrown running′ all′ after r er ea e some s = ap₂ (λ b x. at b x after true) er ea ∙ by running thrown e
+  where
+    by : (running thrown : Bool) → thrown ≡ false → at running all after true ≡ below (at running all before thrown) r
+    by true false e = ap₂ (λ tr un. in-run (plainRun all un tr)) (stepped all before after r some s) (s .0)
+    by true true e = no-way e
+    by false thrown e = refl
 
-pub held-begun : (list : List Row) (n : ℕ) (items : List ℕ) (all : ℕ) → Prepared list n items all → Held all items false
-held-begun list n items all p =
-    let a = prepared list n items all p in
-    subst (λ x. Held x items false) (sym (a .1 .0)) (subst (λ xs. Held (total list) xs false) (sym (a .1 .1)) (held-start list n (fine list n (a .0))))
+pub held-begun : (list : List Row) (n all : ℕ) (items : List ℕ) → Prepared list n all items → Held all items false
+held-begun list n all items p = prepared-fine list n all items p (λ x xs. Held x xs false) (held-start list n)
 
-pub begun : {U : Type 0} (list : List Row) (n : ℕ) (items : List ℕ) (all : ℕ) (u : U) → Prepared list n items all
-    → Began {U = U} (systematicPlan list n) (Ok u) (at true all items false)
-begun list n items all u p =
-    plain-begun list n items all (systematic all items) (systematic (total list) (goals list n)) u p (λ et ei. ap₂ (λ x xs. systematic x xs) et ei)
+pub begun : {U : Type 0} (list : List Row) (n : ℕ) (running : Bool) (all : ℕ) (items : List ℕ) (u : U) → Prepared list n all items → running ≡ true
+    → Began {U = U} (systematicPlan list n) (Ok u) (at running all items false)
+begun list n running all items u p e =
+    plain-begun list n running all items (systematic all items) (systematic (total list) (goals list n)) u p e (λ et ei. ap₂ (λ x xs. systematic x xs) et ei)

@@ -1,1 +1,1 @@
-mod Refills
+pub mod Begun

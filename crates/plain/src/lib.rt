@@ -1,3 +1,2 @@
-//! The plain designs.
-mod prepare;
-pub mod systematic;
+//! What the plain designs share: the units of a run, and what each of them holds of the total.
+pub mod holdings;
