@@ -28,6 +28,7 @@ use Rattle.methods.specs.Laws.{SystematicTakes, SystematicSound}
 use Rattle.methods.proofs.Goals.{Fine, goals-long, goal-most, total-some}
 use Rattle.methods.proofs.Plans.{Prepared, prepared-fine, plain-sound, plain-begun}
 use Rattle.methods.proofs.Holdings.{no-way}
+use Rattle.methods.proofs.Taking.{taken-called, share-settled}
 
 -- ---- the test of a unit's numbers
 some-from : (n j : ℕ) (p : ℕ → Bool) → j < n → p j ≡ true → some n p ≡ true
@@ -118,34 +119,14 @@ held-struck all before thrown all′ after r e h s = subst (λ x. Held x after t
     none true l = absurd (omega arith)
     none false l = refl
 
-fair-last : (all : ℕ) (holds : List ℕ) (k : ℕ) → Within all holds → Settled all holds → k < length holds
-    → Share k (getD holds k 0) all (finished (takenOf all holds (length holds)))
-unfolding weight expect
-fair-last all holds k within settled l = by (ltb k (length holds)) (lt-ltb k (length holds) l) (cases-lt (getD holds k 0) all)
-  where
-    by : (b : Bool) → b ≡ true → (getD holds k 0 < all) ⊎ (all ≤ getD holds k 0) → getD holds k 0 * 1 ≡ all * cond (cond b (eqb (getD holds k 0) all) false) 1 0
-    by false e c = no-way (sym e)
-    by true e (inl u) =
-        let z : getD holds k 0 ≡ 0 = settled k l u in
-        let f : eqb (getD holds k 0) all ≡ false = ne-eqb (getD holds k 0) all (omega arith) in
-        omega (arith, z, ap (λ t. all * cond t 1 0) f)
-    by true e (inr u) =
-        let z : getD holds k 0 ≡ all = omega (arith, within k l) in
-        let f : eqb (getD holds k 0) all ≡ true = eq-eqb (getD holds k 0) all z in
-        omega (arith, z, ap (λ t. all * cond t 1 0) f)
-
 -- ---- before and after
 pub fair : (all : ℕ) (holds : List ℕ) (thrown : Bool) (k : ℕ) → Held all holds thrown → k < length holds → Share k (getD holds k 0) all (systematicTree all holds thrown)
 fair all holds false k h l = fair-first all holds k (h .0) (h .3) l
-fair all holds true k h l = fair-last all holds k (h .3) (h .4 refl) l
+fair all holds true k h l = share-settled all holds (length holds) k l (h .3 k l) (h .4 refl k l)
 
 pub lawful : (all : ℕ) (holds : List ℕ) (thrown : Bool) → Held all holds thrown → Lawful (length holds) (systematicTree all holds thrown)
 lawful all holds false h = lawful-first all holds (h .0) (h .1)
-lawful all holds true h = λ k t. only k (ltb k (length holds)) refl t
-  where
-    only : (k : ℕ) (b : Bool) → ltb k (length holds) ≡ b → T (cond b (eqb (getD holds k 0) all) false) → k < length holds
-    only k true e t = ltb-true k (length holds) e
-    only k false e t = absurd t
+lawful all holds true h = λ k t. taken-called all holds (length holds) k t
 
 -- ---- the plan
 pub held-start : (list : List Row) (n : ℕ) → Fine list n → Held (total list) (goals list n) false

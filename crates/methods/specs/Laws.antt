@@ -8,6 +8,7 @@ use lib.ListN.{getD}
 use Rattle.outcomes.specs.Counting.{Among}
 use Rattle.design.specs.Design.{SoundPlan}
 use Rattle.design.specs.declared.row.Row.{Row}
+use Rattle.methods.specs.Poisson.{poissonPlan}
 use Rattle.methods.specs.Systematic.{numbersFrom, struck, systematicPlan}
 
 -- systematic drawing takes a unit at the throw r exactly if one of r, r + all, r + 2 all and so on is among its numbers
@@ -17,3 +18,7 @@ SystematicTakes = (all : ℕ) (goals : List ℕ) (r k : ℕ) → 0 < all → (st
 -- every plan of systematic drawing is sound: shares are exact, and everything is within the limits
 abbrev pub SystematicSound : Type 0
 SystematicSound = (list : List Row) (n : ℕ) → SoundPlan list (systematicPlan list n)
+
+-- every plan of Poisson drawing is sound
+abbrev pub PoissonSound : Type 0
+PoissonSound = (list : List Row) (n : ℕ) → SoundPlan list (poissonPlan list n)

@@ -5,10 +5,11 @@ use mathlib.Core.Logic.{_↔_}
 use Prim.Native.Nat.{ℕ, _+_, _*_, _<_}
 use native.Mathlib.Nat.{mul-pos, eq-of-mul-eq-mul-right, eq-of-mul-eq-mul-left}
 use native.Mathlib.Omega.{arith}
-use lib.Dec.{T}
+use lib.Dec.{T, ltb}
+use borrow.Author.Tests.{ltb-true, ltb-false}
 use Rattle.outcomes.specs.Sums.{sum, product, others}
-use Rattle.outcomes.specs.Trees.{Tree, finished, branching, Sample, weight, expect, weightOf, Average, HasWays, Every, Lawful}
-use Rattle.outcomes.proofs.Sums.{sum-same, sum-add, sum-scale, sum-times, sum-constant, sum-above, product-positive, product-ones, others-times, others-positive}
+use Rattle.outcomes.specs.Trees.{Tree, finished, branching, Sample, weight, expect, weightOf, Average, Share, HasWays, Every, Lawful}
+use Rattle.outcomes.proofs.Sums.{sum-same, sum-add, sum-scale, sum-times, sum-constant, sum-above, sum-two, product-positive, product-ones, others-times, others-positive}
 
 -- ---- the total weight is above 0
 pub positive : {A : Type 0} (t : Tree A) → HasWays t → 0 < weight t
@@ -155,3 +156,29 @@ pub one-throw-expect : {A : Type 0} (X : A → ℕ) (m : ℕ) (f : ℕ → A) �
 unfolding weight expect
 one-throw-expect X m f = sum-same m (λ d. X (f d) * others m (λ e. 1) d) (λ d. X (f d))
     (λ d l. omega (arith, ap (λ x. X (f d) * x) (others-times m (λ e. 1) d l), ap (λ x. X (f d) * x) (product-ones m)))
+
+-- ---- shares
+pub share-martingale : (k m : ℕ) (sub : ℕ → Tree Sample) (den num₀ : ℕ) (num : ℕ → ℕ)
+    → ((d : ℕ) → d < m → Share k (num d) den (sub d)) → num₀ * m ≡ sum m num → Share k num₀ den (branching m sub)
+share-martingale k m sub den num₀ num each whole = martingale (λ u. cond (u k) 1 0) m sub den num₀ num each whole
+
+-- what holds of both holds of the one that a test picks
+pub either : {A : Type 0} (P : A → Type 0) (b : Bool) (x y : A) → P x → P y → P (cond b x y)
+either P true x y p q = p
+either P false x y p q = q
+
+-- two ways: the a throws below a go on with L, and the b others with R
+pub share-two : (k m a b : ℕ) (L R : Tree Sample) (den num₀ x y : ℕ)
+    → a + b ≡ m
+    → (0 < a → Share k x den L)
+    → (0 < b → Share k y den R)
+    → num₀ * m ≡ a * x + b * y
+    → Share k num₀ den (branching m (λ d. cond (ltb d a) L R))
+share-two k m a b L R den num₀ x y split left right whole =
+    share-martingale k m (λ d. cond (ltb d a) L R) den num₀ (λ d. cond (ltb d a) x y)
+    (λ d l. one d l (ltb d a) refl)
+    (whole ∙ sym (sum-two a b x y) ∙ ap (λ n. sum n (λ d. cond (ltb d a) x y)) split)
+  where
+    one : (d : ℕ) → d < m → (t : Bool) → ltb d a ≡ t → Share k (cond t x y) den (cond t L R)
+    one d l true e = left (omega (arith, ltb-true d a e))
+    one d l false e = right (omega (arith, ltb-false d a e))

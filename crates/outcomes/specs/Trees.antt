@@ -1,8 +1,8 @@
 -- Trees of outcomes, with exact whole-number weights.
 use mathlib.Core.Path.{_≡_}
-use mathlib.Core.Bool.{Bool, cond}
+use mathlib.Core.Bool.{Bool, true, cond}
 use Prim.Native.Nat.{ℕ, _*_, _≤_, _<_}
-use lib.Dec.{T}
+use lib.Dec.{T, eqb}
 use lib.IntN.{ℤ, pos, _*ℤ_}
 use Rattle.outcomes.specs.Sums.{sum, sumℤ, product, others}
 
@@ -14,6 +14,10 @@ pub data Tree (A : Type 0) : Type 0 where
 -- a sample: the set of the unit numbers that it holds
 abbrev pub Sample : Type 0
 Sample = ℕ → Bool
+
+-- the sample with the unit k
+abbrev pub with : Sample → ℕ → Sample
+with u k j = cond (eqb j k) true (u j)
 
 -- the total weight: 1 of a finished tree, and of an open one m times the product of its subtrees' total weights
 unfoldable pub weight : {A : Type 0} → Tree A → ℕ

@@ -1,0 +1,25 @@
+use mathlib.Core.Path.{refl, sym, _∙_}
+use Rattle.methods.proofs.Holdings.{no-way}
+use Rattle.methods.proofs.Poissons.{held-begun, begun as run-begun}
+use Rattle.plain.specs.Of.{runs, whole, held}
+use Rattle.plain.proofs.Begun.{begun}
+use Rattle.poisson.proofs.PoissonDesign.begin.Needs as need
+
+pub ghost-self : need.ghost-self
+ghost-self c = (∣ (λ e. no-way (sym e ∙ c .in-Break-begin .ensures tt .ended)) ∣₁, tt)
+
+pub ghost-self-2 : need.ghost-self-2
+ghost-self-2 c =
+    let u = c .begin .last .self in
+    let b = begun (c .args .list .now) (c .args .n) u tt (c .in-Continue-begin .ensures tt .answers) in
+    (∣ (λ e. held-begun (c .args .list .now) (c .args .n) (whole u) (held u) (b .prepares)) ∣₁, tt)
+
+pub returns : need.returns
+returns c =
+    let u = c .begin .last .self in
+    let b = begun (c .args .list .now) (c .args .n) u tt (c .in-Continue-begin .ensures tt .answers) in
+    record {
+      begun = run-begun (c .args .list .now) (c .args .n) (runs u) (whole u) (held u) tt (b .prepares) (b .runs-now);
+      whole = tt;
+      settings = refl;
+    }
