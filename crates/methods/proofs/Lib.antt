@@ -4,4 +4,8 @@ pub mod Holdings
 pub mod Taking
 pub mod Systematics
 pub mod Striking
+pub mod Duels
+pub mod DuelStates
+pub mod Pivotals
+pub mod PivotalCalls
 pub mod Poissons

@@ -31,7 +31,7 @@ use Rattle.methods.proofs.Taking.{with-other, with-same, one-more, not-yet, no
 -- ---- fairness
 -- a unit that was called is taken or out
 called-part : (all : ℕ) (rest : List ℕ) (j : ℕ) (u : Sample) (k : ℕ) → ((i : ℕ) → i < length rest → getD rest i 0 ≤ all) → k < j
-  → Share k (cond (u k) all 0) all (poisson all rest j u)
+    → Share k (cond (u k) all 0) all (poisson all rest j u)
 unfolding poisson weight expect
 called-part all [] j u k h l = one (u k)
   where
@@ -45,16 +45,16 @@ called-part all (a ∷ rest) j u k h l =
     let split : a + (all - a) ≡ all = omega arith in
     let ne : k ≢ j = omega arith in
     share-two k all a (all - a) (poisson all rest (suc j) (with u j)) (poisson all rest (suc j) u) all x x x
-      split
-      (λ _. subst (λ b. Share k (cond b all 0) all (poisson all rest (suc j) (with u j))) (with-other u j k ne)
-             (called-part all rest (suc j) (with u j) k later (omega arith)))
-      (λ _. called-part all rest (suc j) u k later (omega arith))
-      (omega (arith, ap (λ z. x * z) split))
+    split
+    (λ _. subst (λ b. Share k (cond b all 0) all (poisson all rest (suc j) (with u j))) (with-other u j k ne)
+    (called-part all rest (suc j) (with u j) k later (omega arith)))
+    (λ _. called-part all rest (suc j) u k later (omega arith))
+    (omega (arith, ap (λ z. x * z) split))
 
 -- a unit that is still to be called has its goal
 waiting-part : (all : ℕ) (rest : List ℕ) (j : ℕ) (u : Sample) (i k : ℕ) → ((i : ℕ) → i < length rest → getD rest i 0 ≤ all)
-  → ((k : ℕ) → j ≤ k → u k ≡ false) → k ≡ j + i → i < length rest
-  → Share k (getD rest i 0) all (poisson all rest j u)
+    → ((k : ℕ) → j ≤ k → u k ≡ false) → k ≡ j + i → i < length rest
+    → Share k (getD rest i 0) all (poisson all rest j u)
 unfolding poisson
 waiting-part all [] j u i k h fresh e l = absurd (omega arith)
 waiting-part all (a ∷ rest) j u zero k h fresh e l =
@@ -62,33 +62,35 @@ waiting-part all (a ∷ rest) j u zero k h fresh e l =
     let later : (i : ℕ) → i < length rest → getD rest i 0 ≤ all = λ i li. h (suc i) (omega arith) in
     let split : a + (all - a) ≡ all = omega arith in
     share-two k all a (all - a) (poisson all rest (suc j) (with u j)) (poisson all rest (suc j) u) all a all 0
-      split
-      (λ _. subst (λ b. Share k (cond b all 0) all (poisson all rest (suc j) (with u j))) (with-same u j k (omega arith))
-             (called-part all rest (suc j) (with u j) k later (omega arith)))
-      (λ _. subst (λ b. Share k (cond b all 0) all (poisson all rest (suc j) u)) (fresh k (omega arith))
-             (called-part all rest (suc j) u k later (omega arith)))
-      (omega arith)
+    split
+    (λ _. subst (λ b. Share k (cond b all 0) all (poisson all rest (suc j) (with u j))) (with-same u j k (omega arith))
+    (called-part all rest (suc j) (with u j) k later (omega arith)))
+    (λ _. subst (λ b. Share k (cond b all 0) all (poisson all rest (suc j) u)) (fresh k (omega arith))
+    (called-part all rest (suc j) u k later (omega arith)))
+    (omega arith)
 waiting-part all (a ∷ rest) j u (suc i) k h fresh e l =
     let x : ℕ = getD rest i 0 in
     let low : a ≤ all = h 0 (omega arith) in
     let later : (i : ℕ) → i < length rest → getD rest i 0 ≤ all = λ i li. h (suc i) (omega arith) in
     let split : a + (all - a) ≡ all = omega arith in
     share-two k all a (all - a) (poisson all rest (suc j) (with u j)) (poisson all rest (suc j) u) all x x x
-      split
-      (λ _. waiting-part all rest (suc j) (with u j) i k later
-             (λ k′ lk. let ne : k′ ≢ j = omega arith in with-other u j k′ ne ∙ fresh k′ (omega arith)) (omega arith) (omega arith))
-      (λ _. waiting-part all rest (suc j) u i k later (λ k′ lk. fresh k′ (omega arith)) (omega arith) (omega arith))
-      (omega (arith, ap (λ z. x * z) split))
+    split
+    (λ _. waiting-part all rest (suc j) (with u j) i k later
+    (λ k′ lk. let ne : k′ ≢ j = omega arith in with-other u j k′ ne ∙ fresh k′ (omega arith)) (omega arith) (omega arith))
+    (λ _. waiting-part all rest (suc j) u i k later (λ k′ lk. fresh k′ (omega arith)) (omega arith) (omega arith))
+    (omega (arith, ap (λ z. x * z) split))
 
 lawful-from : (all : ℕ) (rest : List ℕ) (j : ℕ) (u : Sample) (units : ℕ) → 0 < all → all ≤ 10240000
-  → ((k : ℕ) → T (u k) → k < units) → j + length rest ≤ units → Lawful units (poisson all rest j u)
+    → ((k : ℕ) → T (u k) → k < units) → j + length rest ≤ units → Lawful units (poisson all rest j u)
 unfolding poisson
 lawful-from all [] j u units some few only l = only
-lawful-from all (a ∷ rest) j u units some few only l =
-    ( some, few
-    , λ d ld. either (Lawful units) (ltb d a) (poisson all rest (suc j) (with u j)) (poisson all rest (suc j) u)
-        (lawful-from all rest (suc j) (with u j) units some few (λ k t. more k (eqb k j) refl t) (omega arith))
-        (lawful-from all rest (suc j) u units some few only (omega arith)))
+lawful-from all (a ∷ rest) j u units some few only l = (
+  some,
+  few,
+  λ d ld. either (Lawful units) (ltb d a) (poisson all rest (suc j) (with u j)) (poisson all rest (suc j) u)
+      (lawful-from all rest (suc j) (with u j) units some few (λ k t. more k (eqb k j) refl t) (omega arith))
+      (lawful-from all rest (suc j) u units some few only (omega arith)),
+)
   where
     more : (k : ℕ) (b : Bool) → eqb k j ≡ b → T (cond b true (u k)) → k < units
     more k true e t = omega (arith, eqb-true k j e)
@@ -117,7 +119,7 @@ after-out all holds j some l = fun-ext (λ k. sym (one-more all holds j 0 k l �
     here k false e = refl
 
 pub stepped : (all : ℕ) (holds : List ℕ) (j d x : ℕ) → 0 < all → j < length holds → x ≡ cond (ltb d (getD holds j 0)) all 0
-  → subtree (poissonTree all holds j) d ≡ poissonTree all (set holds j x) (j + 1)
+    → subtree (poissonTree all holds j) d ≡ poissonTree all (set holds j x) (j + 1)
 unfolding poisson
 stepped all holds j d x some l e =
     ap (λ xs. subtree (poisson all xs j (takenOf all holds j)) d) (drop-more holds j 0 l)
@@ -126,38 +128,41 @@ stepped all holds j d x some l e =
   where
     same : (y : ℕ) → drop (j + 1) holds ≡ drop (suc j) (set holds j y)
     same y = let lt : j < suc j = omega arith in ap (λ i. drop i holds) (add-one j) ∙ sym (drop-set-lt (suc j) holds j y lt)
+
     pick : (b : Bool) → cond b (poisson all (drop (j + 1) holds) (suc j) (with (takenOf all holds j) j)) (poisson all (drop (j + 1) holds) (suc j) (takenOf all holds j))
-      ≡ poissonTree all (set holds j (cond b all 0)) (j + 1)
+        ≡ poissonTree all (set holds j (cond b all 0)) (j + 1)
     pick true = ap (λ xs. poisson all xs (suc j) (with (takenOf all holds j) j)) (same all)
-      ∙ ap (λ u. poisson all (drop (suc j) (set holds j all)) (suc j) u) (after-taken all holds j l)
-      ∙ sym (ap (λ i. poissonTree all (set holds j all) i) (add-one j))
+        ∙ ap (λ u. poisson all (drop (suc j) (set holds j all)) (suc j) u) (after-taken all holds j l)
+        ∙ sym (ap (λ i. poissonTree all (set holds j all) i) (add-one j))
     pick false = ap (λ xs. poisson all xs (suc j) (takenOf all holds j)) (same 0)
-      ∙ ap (λ u. poisson all (drop (suc j) (set holds j 0)) (suc j) u) (after-out all holds j some l)
-      ∙ sym (ap (λ i. poissonTree all (set holds j 0) i) (add-one j))
+        ∙ ap (λ u. poisson all (drop (suc j) (set holds j 0)) (suc j) u) (after-out all holds j some l)
+        ∙ sym (ap (λ i. poissonTree all (set holds j 0) i) (add-one j))
 
 pub began : (all : ℕ) (holds : List ℕ) → poisson all holds 0 (λ _. false) ≡ poissonTree all holds 0
 began all holds = ap (λ u. poisson all holds 0 u) (none-called all holds)
 
 pub fair : (all : ℕ) (holds : List ℕ) (j k : ℕ) → Held all holds j → k < length holds
-  → Share k (getD holds k 0) all (poissonTree all holds j)
+    → Share k (getD holds k 0) all (poissonTree all holds j)
 fair all holds j k held l = elim (cases-lt k j) [
-    inl before ↦
+  | inl before ↦
       let c : ltb k j ≡ true = lt-ltb k j before in
       let u : takenOf all holds j k ≡ eqb (getD holds k 0) all = simp c in
       subst (λ x. Share k x all (poissonTree all holds j)) (ap (λ b. cond b all 0) u ∙ two before (eqb (getD holds k 0) all) refl)
-        (called-part all (drop j holds) j (takenOf all holds j) k later before)
+      (called-part all (drop j holds) j (takenOf all holds j) k later before)
   | inr after ↦
       let e : getD (drop j holds) (k - j) 0 ≡ getD holds k 0 =
-            getD-drop j holds (k - j) 0 ∙ (let s : j + (k - j) ≡ k = omega arith in ap (λ i. getD holds i 0) s) in
+      getD-drop j holds (k - j) 0 ∙ (let s : j + (k - j) ≡ k = omega arith in ap (λ i. getD holds i 0) s) in
       let long : k - j < length (drop j holds) = simp length-drop (omega arith) in
       subst (λ x. Share k x all (poissonTree all holds j)) e
-        (waiting-part all (drop j holds) j (takenOf all holds j) (k - j) k later fresh (omega arith) long)
-  ]
+      (waiting-part all (drop j holds) j (takenOf all holds j) (k - j) k later fresh (omega arith) long)
+]
   where
     later : (i : ℕ) → i < length (drop j holds) → getD (drop j holds) i 0 ≤ all
     later i li = subst (λ x. x ≤ all) (sym (getD-drop j holds i 0)) (held .3 (j + i) (omega (arith, simp length-drop at li)))
+
     fresh : (k : ℕ) → j ≤ k → takenOf all holds j k ≡ false
     fresh k l = let c : ltb k j ≡ false = le-ltb k j l in simp c
+
     two : k < j → (b : Bool) → eqb (getD holds k 0) all ≡ b → cond b all 0 ≡ getD holds k 0
     two before true e = sym (eqb-true (getD holds k 0) all e)
     two before false e = sym (held .4 k before (omega (arith, held .3 k l, ne e)))

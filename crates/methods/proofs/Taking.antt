@@ -23,13 +23,13 @@ with-same u j k e = ap (λ b. cond b true (u k)) (eq-eqb k j e)
 -- the units taken, once one more has been called
 pub one-more : (all : ℕ) (holds : List ℕ) (j x k : ℕ) → j < length holds → takenOf all (set holds j x) (suc j) k ≡ cond (eqb k j) (eqb x all) (takenOf all holds j k)
 one-more all holds j x k l = elim (cases-order k j) [
-    inl e ↦
+  | inl e ↦
       let a : ltb k (suc j) ≡ true = lt-ltb k (suc j) (omega arith) in
       let b : eqb k j ≡ true = eq-eqb k j e in
       let g : getD (set holds j x) k 0 ≡ x = ap (λ i. getD (set holds j x) i 0) e ∙ getD-set-same holds j x 0 l in
       simp (a, b, g)
   | inr o ↦ elim o [
-      inl e ↦
+    | inl e ↦
         let a : ltb k (suc j) ≡ true = lt-ltb k (suc j) (omega arith) in
         let b : eqb k j ≡ false = ne-eqb k j (omega arith) in
         let ne : k ≢ j = omega arith in
@@ -41,8 +41,8 @@ one-more all holds j x k l = elim (cases-order k j) [
         let b : eqb k j ≡ false = ne-eqb k j (omega arith) in
         let c : ltb k j ≡ false = le-ltb k j (omega arith) in
         simp (a, b, c)
-    ]
   ]
+]
 
 pub not-yet : (all : ℕ) (holds : List ℕ) (j k : ℕ) → j ≤ k → takenOf all holds j k ≡ false
 not-yet all holds j k l = let c : ltb k j ≡ false = le-ltb k j l in simp c
@@ -59,7 +59,7 @@ call-one all holds j k l = ap (λ h. takenOf all h (suc j) k) (sym (set-getD hol
 
 pub one-set : (all : ℕ) (holds : List ℕ) (i j x k : ℕ) → i < j → i < length holds → takenOf all (set holds i x) j k ≡ cond (eqb k i) (eqb x all) (takenOf all holds j k)
 one-set all holds i j x k l m = elim (ℕ-discrete k i) [
-    yes e ↦
+  | yes e ↦
       (let a : ltb k j ≡ true = lt-ltb k j (omega arith) in
       let b : eqb k i ≡ true = eq-eqb k i e in
       let g : getD (set holds i x) k 0 ≡ x = ap (λ n. getD (set holds i x) n 0) e ∙ getD-set-same holds i x 0 m in
@@ -68,10 +68,10 @@ one-set all holds i j x k l m = elim (ℕ-discrete k i) [
       (let b : eqb k i ≡ false = ne-eqb k i ne in
       let g : getD (set holds i x) k 0 ≡ getD holds k 0 = getD-set-other holds i k x 0 ne in
       simp (b, g))
-  ]
+]
 
 pub two-more : (all : ℕ) (holds : List ℕ) (i j x y k : ℕ) → i < j → j < length holds
-  → takenOf all (set (set holds i x) j y) (suc j) k ≡ cond (eqb k j) (eqb y all) (cond (eqb k i) (eqb x all) (takenOf all holds j k))
+    → takenOf all (set (set holds i x) j y) (suc j) k ≡ cond (eqb k j) (eqb y all) (cond (eqb k i) (eqb x all) (takenOf all holds j k))
 two-more all holds i j x y k l m =
     let len : length (set holds i x) ≡ length holds = length-set holds i x in
     one-more all (set holds i x) j y k (omega arith)

@@ -8,6 +8,7 @@ use lib.ListN.{getD}
 use Rattle.outcomes.specs.Counting.{Among}
 use Rattle.design.specs.Design.{SoundPlan}
 use Rattle.design.specs.declared.row.Row.{Row}
+use Rattle.methods.specs.Pivotal.{pivotalPlan}
 use Rattle.methods.specs.Poisson.{poissonPlan}
 use Rattle.methods.specs.Systematic.{numbersFrom, struck, systematicPlan}
 
@@ -18,6 +19,10 @@ SystematicTakes = (all : ℕ) (goals : List ℕ) (r k : ℕ) → 0 < all → (st
 -- every plan of systematic drawing is sound: shares are exact, and everything is within the limits
 abbrev pub SystematicSound : Type 0
 SystematicSound = (list : List Row) (n : ℕ) → SoundPlan list (systematicPlan list n)
+
+-- every plan of ordered pivotal drawing is sound
+abbrev pub PivotalSound : Type 0
+PivotalSound = (list : List Row) (n : ℕ) → SoundPlan list (pivotalPlan list n)
 
 -- every plan of Poisson drawing is sound
 abbrev pub PoissonSound : Type 0

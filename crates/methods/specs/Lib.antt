@@ -1,7 +1,9 @@
 pub mod Plain
 pub mod Systematic
+pub mod Pivotal
 pub mod Poisson
 pub mod Holdings
 pub mod SystematicRuns
+pub mod PivotalRuns
 pub mod PoissonRuns
 pub mod Laws

@@ -55,7 +55,11 @@ pub impl Design for Poisson as PoissonDesign {
     }
 
     fn ways(&self) -> u32 {
-        if self.units.is_running() && self.called < self.units.units() { self.units.total() } else { 0 }
+        if self.units.is_running() && self.called < self.units.units() {
+            self.units.total()
+        } else {
+            0
+        }
     }
 
     fn step(&mut self, d: u32) -> Result<(), Fault> {

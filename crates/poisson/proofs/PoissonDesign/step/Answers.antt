@@ -21,9 +21,11 @@ ghost-self c =
     let s = c .args .self .now in
     let u = c .set .last .self in
     let o = open-at (runs (s .units)) (whole (s .units)) (held (s .units)) (s .called) (c .ways-ways .result) (s .holding) (c .ways-ways .ensures tt) (c .if-ways-eq0 .left) in
-    let left = c .settled .ensures ∙ ap₂ (λ g m. cond (ltb (c .args .d) g) m 0) (c .get-goal .ensures) (o .whole) in
-    (∣ (λ e. held-step (whole (s .units)) (held (s .units)) (s .called) (whole u) (held u) (c .settled .result) (ltb (c .args .d) (getD (held (s .units)) (s .called) 0))
-    (c .set .ensures .whole) (c .set .ensures .held) (o .held-now) (o .more) left) ∣₁, tt)
+    let left = c .settled .ensures ∙ ap₂ (λ g m. cond (ltb (c .args .d) g) m 0) (c .get-goal .ensures) (o .whole) in (
+      ∣ (λ e. held-step (whole (s .units)) (held (s .units)) (s .called) (whole u) (held u) (c .settled .result) (ltb (c .args .d) (getD (held (s .units)) (s .called) 0))
+          (c .set .ensures .whole) (c .set .ensures .held) (o .held-now) (o .more) left) ∣₁,
+      tt,
+    )
 
 pub returns : need.returns
 returns c =
