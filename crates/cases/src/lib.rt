@@ -1,6 +1,5 @@
 //! Worked cases of the designs and the throws, run as tests.
 mod refusals;
-mod systematic;
 mod throwing;
 
 use design::row::Row;
