@@ -4,11 +4,9 @@ mod duel;
 ghost use mathlib.Core.Bool.{true, false};
 ghost use mathlib.Core.Path.{_≡_};
 ghost use Rattle.std.specs.Vec.{made};
-ghost use Rattle.methods.specs.Holdings.{standing};
 ghost use Rattle.methods.specs.Pivotal.{pivotalPlan};
-ghost use Rattle.methods.specs.PivotalRuns.{pivotalTree, Held, Ready, Whole};
-ghost use Rattle.pivotal.specs.Duels.{DueDuel};
-ghost use Rattle.plain.specs.Of.{runs, whole, held};
+ghost use Rattle.pivotal.specs.Duels.{treeOf, HeldIn, ReadyIn, WholeIn, DueDuel};
+ghost use Rattle.plain.specs.Of.{runs, standsAt};
 use design::design::Design;
 use design::fault::Fault;
 use design::fault::Reason;
@@ -26,15 +24,15 @@ pub struct Pivotal {
     // How many units have been called. While any are left, the next one has to duel.
     called: usize,
     pending: Option<usize>,
-    ghost holding: { ∥ (runs units ≡ true → Whole (whole units) (held units) called pending) ∥₁ },
+    ghost holding: { ∥ (runs units ≡ true → WholeIn units called pending) ∥₁ },
 }
 
 // Calls units until one has to duel, or all have been called: how many have been called then, and who is pending.
 fn next_duel(units: &Holdings, called: usize, pending: Option<usize>) -> (usize, Option<usize>)
-    requires { ⌜ Held (whole (now units)) (held (now units)) called pending ⌝ }
-    ensures held { λ r. ⌜ Held (whole (now (units .entry))) (held (now (units .entry))) (r .0) (r .1) ⌝ }
-    ensures ready { λ r. ⌜ Ready (whole (now (units .entry))) (held (now (units .entry))) (r .0) (r .1) ⌝ }
-    ensures same { λ r. ⌜ pivotalTree (whole (now (units .entry))) (held (now (units .entry))) (r .0) (r .1) ≡ pivotalTree (whole (now (units .entry))) (held (now (units .entry))) called pending ⌝ }
+    requires { ⌜ HeldIn (now units) called pending ⌝ }
+    ensures held { λ r. ⌜ HeldIn (now (units .entry)) (r .0) (r .1) ⌝ }
+    ensures ready { λ r. ⌜ ReadyIn (now (units .entry)) (r .0) (r .1) ⌝ }
+    ensures same { λ r. ⌜ treeOf (now (units .entry)) (r .0) (r .1) ≡ treeOf (now (units .entry)) called pending ⌝ }
 {
     let mut waiting = pending;
     for at in called..units.units() {
@@ -63,7 +61,7 @@ impl Pivotal {
 
     // The duel that is due, if one is.
     fn duel(&self) -> Option<Duel>
-        ensures { λ r. ⌜ DueDuel (runs (now (self .entry) .units)) (whole (now (self .entry) .units)) (held (now (self .entry) .units)) (now (self .entry) .called) (now (self .entry) .pending) r ⌝ }
+        ensures { λ r. ⌜ DueDuel (now (self .entry) .units) (now (self .entry) .called) (now (self .entry) .pending) r ⌝ }
     {
         if !self.units.is_running() || self.called >= self.units.units() {
             return None;
@@ -83,7 +81,7 @@ impl Pivotal {
 pub impl Design for Pivotal as PivotalDesign {
     ghost plan = { λ _. pivotalPlan };
 
-    ghost tree = { λ s. standing (runs (s .units)) (whole (s .units)) (held (s .units)) (pivotalTree (whole (s .units)) (held (s .units)) (s .called) (s .pending)) };
+    ghost tree = { λ s. standsAt (s .units) (treeOf (s .units) (s .called) (s .pending)) };
 
     ghost intact = { λ _. Unit {0} };
 

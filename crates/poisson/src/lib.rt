@@ -3,10 +3,9 @@ ghost use lib.Dec.{ltb};
 ghost use mathlib.Core.Bool.{true, false, cond};
 ghost use mathlib.Core.Path.{_≡_};
 ghost use Rattle.std.specs.Vec.{made};
-ghost use Rattle.methods.specs.Holdings.{standing};
 ghost use Rattle.methods.specs.Poisson.{poissonPlan};
 ghost use Rattle.methods.specs.PoissonRuns.{poissonTree, Held};
-ghost use Rattle.plain.specs.Of.{runs, whole, held};
+ghost use Rattle.plain.specs.Of.{runs, whole, held, standsAt};
 use design::design::Design;
 use design::fault::Fault;
 use design::fault::Reason;
@@ -44,7 +43,7 @@ impl Poisson {
 pub impl Design for Poisson as PoissonDesign {
     ghost plan = { λ _. poissonPlan };
 
-    ghost tree = { λ s. standing (runs (s .units)) (whole (s .units)) (held (s .units)) (poissonTree (whole (s .units)) (held (s .units)) (s .called)) };
+    ghost tree = { λ s. standsAt (s .units) (poissonTree (whole (s .units)) (held (s .units)) (s .called)) };
 
     ghost intact = { λ _. Unit {0} };
 

@@ -4,10 +4,10 @@ ghost use mathlib.Core.Path.{_≡_};
 ghost use Prim.Native.Nat.{_≤_, _<_};
 ghost use lib.ListN.{length};
 ghost use Rattle.std.specs.Vec.{made};
-ghost use Rattle.methods.specs.Holdings.{standing, Within};
+ghost use Rattle.methods.specs.Holdings.{Within};
 ghost use Rattle.methods.specs.Systematic.{systematicPlan};
 ghost use Rattle.methods.specs.SystematicRuns.{systematicTree, Held, Struck};
-ghost use Rattle.plain.specs.Of.{runs, whole, held};
+ghost use Rattle.plain.specs.Of.{runs, whole, held, standsAt};
 use design::design::Design;
 use design::fault::Fault;
 use design::fault::Reason;
@@ -64,7 +64,7 @@ impl Systematic {
 pub impl Design for Systematic as SystematicDesign {
     ghost plan = { λ _. systematicPlan };
 
-    ghost tree = { λ s. standing (runs (s .units)) (whole (s .units)) (held (s .units)) (systematicTree (whole (s .units)) (held (s .units)) (s .thrown)) };
+    ghost tree = { λ s. standsAt (s .units) (systematicTree (whole (s .units)) (held (s .units)) (s .thrown)) };
 
     ghost intact = { λ _. Unit {0} };
 
