@@ -1,15 +1,13 @@
 -- The calls of a design, over any run.
 use mathlib.Core.Path.{_≡_, sym, subst, _∙_}
 use mathlib.Core.Bool.{cond}
-use mathlib.Core.List.{List}
 use Prim.Native.Nat.{ℕ, _<_}
 use lib.Dec.{T, eqb, eqb→eq, eqb-refl}
 use lib.ListN.{length}
 use Rattle.std.specs.declared.result.Result.the-variants.{Ok}
 use Rattle.outcomes.specs.Trees.{Lawful}
 use Rattle.outcomes.proofs.Trees.{share-whole, average-one, lawful-ways}
-use Rattle.design.specs.declared.row.Row.{Row}
-use Rattle.design.specs.Design.{Standing, no-run, in-run, Run, Fair, Shared, Taken, Sound, SoundRun, SoundStanding}
+use Rattle.design.specs.Design.{Standing, no-run, in-run, Run, Fair, Shared, Taken, SoundStanding}
 use Rattle.design.specs.Laws.{PrescribedFirst, OneNumerator}
 
 -- a unit is in every outcome just if its share is the whole

@@ -1,8 +1,7 @@
 -- The laws of shares over any design, as statements.
 use mathlib.Core.Path.{_≡_}
 use mathlib.Core.List.{List}
-use Prim.Native.Nat.{ℕ, _<_}
-use lib.ListN.{length}
+use Prim.Native.Nat.{ℕ}
 use Rattle.std.specs.declared.result.Result.the-variants.{Ok}
 use Rattle.design.specs.Design.{Run, in-run, Sound, SoundRun, Fair, Shared}
 use Rattle.design.specs.declared.row.Row.{Row}

@@ -13,7 +13,7 @@ use lib.ListN.{length, getD, set, drop}
 use Rattle.std.specs.declared.result.Result.the-variants.{Ok}
 use Rattle.std.proofs.shelf.Tests.{lt-ltb, le-ltb, eq-eqb, ne-eqb, eqb-true, cases-lt}
 use Rattle.std.proofs.shelf.Lists.{drop-more, drop-all, drop-set-lt, getD-set-same, getD-set-other, getD-drop, length-drop, length-set}
-use Rattle.outcomes.specs.Trees.{Tree, Sample, with, weight, expect, Share, Lawful, ways, subtree}
+use Rattle.outcomes.specs.Trees.{Sample, with, weight, expect, Share, Lawful, ways, subtree}
 use Rattle.outcomes.proofs.Trees.{share-two, either}
 use Rattle.design.specs.Lists.{total}
 use Rattle.design.specs.Design.{Standing, in-run, Began, waysOf, below}
@@ -26,7 +26,7 @@ use Rattle.methods.specs.Laws.{PoissonSound}
 use Rattle.methods.proofs.Goals.{Fine, goals-long, goal-most, total-some}
 use Rattle.methods.proofs.Plans.{Prepared, prepared-fine, plain-sound, plain-begun}
 use Rattle.methods.proofs.Holdings.{no-way}
-use Rattle.methods.proofs.Taking.{with-other, with-same, one-more, not-yet, none-called, taken-called}
+use Rattle.methods.proofs.Taking.{with-other, with-same, one-more, none-called, taken-called}
 
 -- ---- fairness
 -- a unit that was called is taken or out

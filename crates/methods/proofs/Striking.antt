@@ -16,7 +16,6 @@ use Rattle.outcomes.specs.Counting.{Among}
 use Rattle.outcomes.proofs.Counting.{same-rest}
 use Rattle.methods.specs.Systematic.{among, numbersFrom, struck}
 use Rattle.methods.specs.Holdings.{Within}
-use Rattle.methods.specs.SystematicRuns.{Struck}
 use Rattle.methods.proofs.Systematics.{among-is}
 use Rattle.methods.proofs.Holdings.{no-way}
 
@@ -46,18 +45,6 @@ pub record Striking (all : ℕ) (goals : List ℕ) (r i low point : ℕ) (items 
   pub from : low ≤ point
   pub near : point < low + all
   pub small : low ≤ i * all
-
-pub striking-none : (all : ℕ) (goals : List ℕ) (r : ℕ) → r < all → Striking all goals r 0 0 r goals
-striking-none all goals r l = record {
-  long = refl;
-  done = λ k l. absurd (omega arith);
-  left = λ k l. refl;
-  low-is = refl;
-  point-is = (0, omega arith);
-  from = omega arith;
-  near = omega arith;
-  small = omega arith;
-}
 
 -- what the unit is left with, and the point after it
 abbrev Left : ℕ → ℕ → ℕ → ℕ → ℕ → Type 0
@@ -109,6 +96,3 @@ striking-more all goals r i low point items items′ point′ some within l s (i
 striking-more all goals r i low point items items′ point′ some within l s (inr h) =
     subst (λ xs. Striking all goals r (i + 1) (low + getD items i 0) point′ xs) (sym (h .1))
     (unit-more all goals r i low point items 0 point′ some within l s (inr (h .0, refl, h .2)))
-
-pub striking-all : (all : ℕ) (goals : List ℕ) (r i low point : ℕ) (items : List ℕ) → Striking all goals r i low point items → length goals ≤ i → Struck all goals r items
-striking-all all goals r i low point items s l = (s .long, λ k lk. s .done k (omega arith))

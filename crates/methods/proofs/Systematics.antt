@@ -2,7 +2,7 @@
 use mathlib.Core.Path.{_≡_, refl, sym, ap, ap₂, subst, fun-ext, _∙_}
 use mathlib.Core.Bool.{Bool, true, false, cond, false≢true, _&&_}
 use mathlib.Core.List.{List}
-use mathlib.Core.Logic.{_⊎_, inl, inr, _↔_, ∥∥₁-elim}
+use mathlib.Core.Logic.{inl, inr, _↔_, ∥∥₁-elim}
 use Prim.Native.Nat.{ℕ, zero, suc, _+_, _*_, _≤_, _<_}
 use native.Mathlib.Nat.{mul-le-mul-right, mul-comm}
 use native.Mathlib.Decide.{ℕ-discrete}
@@ -13,7 +13,7 @@ use lib.ListN.{length, getD}
 use Rattle.std.specs.declared.result.Result.the-variants.{Ok}
 use Rattle.std.proofs.shelf.Tests.{eq-eqb, ne-eqb, leb-true, ltb-true, le-leb, lt-ltb, le-ltb, and-parts, and-from, or-cases, or-left, or-right, cases-lt}
 use Rattle.std.proofs.shelf.Lists.{getD-past}
-use Rattle.outcomes.specs.Trees.{finished, Share, Lawful, weight, expect, subtree}
+use Rattle.outcomes.specs.Trees.{finished, Share, Lawful, subtree}
 use Rattle.outcomes.specs.Counting.{Among}
 use Rattle.outcomes.proofs.Trees.{one-throw-weight, one-throw-expect}
 use Rattle.outcomes.proofs.Counting.{counting}
@@ -23,7 +23,7 @@ use Rattle.design.specs.Design.{Standing, in-run, Began, waysOf, below}
 use Rattle.methods.specs.Plain.{goals, plainRun}
 use Rattle.methods.specs.Systematic.{some, among, numbersFrom, struck, systematic, systematicPlan}
 use Rattle.methods.specs.Holdings.{standing, Within, takenOf}
-use Rattle.methods.specs.SystematicRuns.{systematicTree, Settled, Held, Struck}
+use Rattle.methods.specs.SystematicRuns.{systematicTree, Held, Struck}
 use Rattle.methods.specs.Laws.{SystematicTakes, SystematicSound}
 use Rattle.methods.proofs.Goals.{Fine, goals-long, goal-most, total-some}
 use Rattle.methods.proofs.Plans.{Prepared, prepared-fine, plain-sound, plain-begun}

@@ -6,12 +6,12 @@ use Prim.Native.Nat.{ℕ, zero, suc, _+_, _*_, _/_, _%_, _^_, _<_}
 use native.Mathlib.Nat.{add-mul-mod-self-right, mod-eq-of-lt}
 use native.Mathlib.Omega.{arith}
 use lib.Dec.{eqb, ltb}
-use Rattle.std.specs.declared.result.Result.the-variants.{Ok, Err}
+use Rattle.std.specs.declared.result.Result.the-variants.{Err}
 use Rattle.std.proofs.shelf.Tests.{ltb-false, le-ltb, eq-eqb, ne-eqb, cond-true}
 use Rattle.outcomes.specs.Sums.{sum, count}
 use Rattle.outcomes.proofs.Sums.{sum-same, sum-single, sum-split}
 use Rattle.design.specs.Faults.{refusal}
-use Rattle.throws.specs.Words.{limit, serving, remainder, rest, inRange, thrown, left, AllFrom, DryExactly, EachAsOften}
+use Rattle.throws.specs.Words.{limit, serving, remainder, rest, inRange, AllFrom, DryExactly, EachAsOften}
 
 -- ---- dry
 all-above : (l : ℕ) (ws : List ℕ) → serving l ws ≡ [] → AllFrom l ws

@@ -1,4 +1,4 @@
-use mathlib.Core.Path.{sym, ap, subst, _∙_}
+use mathlib.Core.Path.{ap, _∙_}
 use Rattle.methods.specs.PivotalRuns.{duelWays}
 use Rattle.methods.proofs.PivotalCalls.{holding, ways-at}
 use Rattle.plain.specs.Of.{runs, whole, held}
