@@ -1,0 +1,4 @@
+pub mod Holds
+pub mod Cuts
+pub mod Runs
+pub mod Series

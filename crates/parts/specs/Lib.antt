@@ -1,0 +1,4 @@
+pub mod Parts
+pub mod Series
+pub mod Bounds
+pub mod Laws
