@@ -4,12 +4,13 @@ use Rattle.outcomes.specs.Sums.{sum}
 use Rattle.design.specs.Faults.{Refusal, or_else, first_of, refused_if, refused_at}
 use Rattle.design.specs.declared.row.Row.{Row}
 
--- row k, and its size
+-- row k
 abbrev pub row_at : List Row → ℕ → Row
 row_at list k = slice_index_or list k (record { stratum = 0; cluster = 0; size = 0 })
 
+-- the size of row k
 abbrev pub size_at : List Row → ℕ → ℕ
-size_at list k = (row_at list k).size
+size_at list k = (slice_index_or list k (record { stratum = 0; cluster = 0; size = 0 })).size
 
 -- the total of the sizes of the rows before row k, and of all rows
 abbrev pub total_before : List Row → ℕ → ℕ

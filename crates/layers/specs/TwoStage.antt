@@ -1,5 +1,5 @@
 -- Two-stage drawing over any two designs: the first runs on the clusters, and the second on each taken cluster in order.
-use Rattle.std.specs.Prelude.{ℕ, ◌*◌, ◌/◌, ◌%◌, ◌^◌, Bool, true, false, cond, not, ◌||◌, List, [], ◌∷◌, map, length, Some, None, Option, ◌==◌, nat_lt, slice_index}
+use Rattle.std.specs.Prelude.{ℕ, ◌*◌, ◌/◌, ◌%◌, ◌^◌, Bool, cond, not, ◌||◌, List, [], ◌∷◌, map, length, Some, None, Option, ◌==◌, nat_lt, slice_index}
 use Rattle.outcomes.specs.Trees.{Tree, Sample, bind}
 use Rattle.design.specs.Faults.{Refusal, first_of, refused_if, refused_at, refusal_passed_up}
 use Rattle.design.specs.Lists.{row_at, total, first, list_refusal}
@@ -13,9 +13,12 @@ use Rattle.parts.specs.Series.{Plans, nothing, tree_of, numerator_of, denominato
 abbrev pub clusters : ℕ → List Row → List Part
 clusters m list = parts same_cluster (λ _. m) list
 
--- the row of a cluster: its stratum, its cluster and the sum of its sizes
+-- the row for a cluster with these rows: its stratum, its cluster and the sum of its sizes
+abbrev pub row_for : List Row → Row
+row_for rows = record { stratum = (row_at rows 0).stratum; cluster = (row_at rows 0).cluster; size = total rows }
+
 abbrev pub cluster_row : Part → Row
-cluster_row p = record { stratum = (row_at p.rows 0).stratum; cluster = (row_at p.rows 0).cluster; size = total p.rows }
+cluster_row p = row_for p.rows
 
 -- what the first design does with the list of clusters and n / m
 abbrev pub first_plan : Plans → List Part → ℕ → ℕ → Plan

@@ -1,19 +1,17 @@
 -- The calls of ordered pivotal drawing, over the state of a run.
 use Rattle.std.proofs.Common.{◌≡◌, ℕ, zero, suc, ◌+◌, ◌*◌, ◌%◌, ◌<◌, ◌≤◌, Bool, true, false, ◌≢◌, ◌⊎◌, List, [], ◌∷◌, length, get_or, set, is_some, Some, None, Ok, Option, sym, refl, ap, ◌∙◌, subst, ap₂, inl, inr, arith}
 use mathlib.Core.Logic.{∥∥₁_elim}
-use native.Mathlib.Bridge.{le_prop}
 use native.Mathlib.Nat.{mul-mod_left}
-use denote.Struct.Props.{props, five_prop, four_prop}
-use std.HLevel.{→_prop, ×_prop}
+use Rattle.std.proofs.Props.{props}
 use Rattle.outcomes.specs.Sums.{sum}
 use Rattle.outcomes.specs.Trees.{Share, Lawful, ways, subtree}
 use Rattle.design.specs.Lists.{size_at, total}
 use Rattle.design.specs.Design.{Standing, in_run, Began, ways_of, below}
 use Rattle.design.specs.declared.row.Row.{Row}
 use Rattle.methods.specs.Plain.{goals, plain_run}
-use Rattle.methods.specs.Holdings.{standing, Within}
+use Rattle.methods.specs.Holdings.{standing}
 use Rattle.methods.specs.Pivotal.{nobody, pivotal, pivotal_plan}
-use Rattle.methods.specs.PivotalRuns.{pivotal_tree, duel_ways, pending_after, called_after, keeper, Settled, PendingShort, Fresh, add_up, Even, Held, Ready, Whole, Due}
+use Rattle.methods.specs.PivotalRuns.{pivotal_tree, duel_ways, pending_after, called_after, keeper, PendingShort, add_up, Held, Whole, Due}
 use Rattle.methods.specs.Laws.{PivotalSound}
 use Rattle.methods.proofs.Goals.{Fine, goals_long, goal_some, goal_most, total_some}
 use Rattle.methods.proofs.Plans.{Prepared, prepared_fine, plain_sound, plain_begun}
@@ -28,28 +26,8 @@ short_one : (all : ℕ) (holds : List ℕ) (called : ℕ) (pend : Option ℕ) �
 short_one all holds called None = hlevel props
 short_one all holds called (Some i) = hlevel props
 
-within_one : (all : ℕ) (holds : List ℕ) → IsProp (Within all holds)
-within_one all holds = hlevel props
-
-settled_one : (all : ℕ) (holds : List ℕ) (called : ℕ) (pend : Option ℕ) → IsProp (Settled all holds called pend)
-settled_one all holds called pend = hlevel props
-
-fresh_one : (holds : List ℕ) (called : ℕ) → IsProp (Fresh holds called)
-fresh_one holds called = hlevel props
-
-even_one : (all : ℕ) (holds : List ℕ) (called : ℕ) (pend : Option ℕ) → IsProp (Even all holds called pend)
-even_one all holds called pend = hlevel props
-
-ready_one : (all : ℕ) (holds : List ℕ) (called : ℕ) (pend : Option ℕ) → IsProp (Ready all holds called pend)
-ready_one all holds called pend = hlevel props
-
-held_one : (all : ℕ) (holds : List ℕ) (called : ℕ) (pend : Option ℕ) → IsProp (Held all holds called pend)
-held_one all holds called pend =
-    five_prop le_prop le_prop le_prop (within_one all holds)
-    (four_prop (settled_one all holds called pend) (short_one all holds called pend) (fresh_one holds called) (even_one all holds called pend))
-
 whole_one : (all : ℕ) (holds : List ℕ) (called : ℕ) (pend : Option ℕ) (running : Bool) → IsProp (running ≡ true → Whole all holds called pend)
-whole_one all holds called pend running = →_prop (×_prop (held_one all holds called pend) (ready_one all holds called pend))
+whole_one all holds called pend running = hlevel (props, short_one)
 
 pub holding : (all : ℕ) (holds : List ℕ) (called : ℕ) (pend : Option ℕ) (running : Bool) → ∥ (running ≡ true → Whole all holds called pend) ∥₁ → running ≡ true → Whole all holds called pend
 holding all holds called pend running h = ∥∥₁_elim h (whole_one all holds called pend running) (λ x. x)

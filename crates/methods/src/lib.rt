@@ -1,4 +1,6 @@
 //! The sampling methods: what each plain design means, as definitions in specs/, and the laws that hold of them.
+#![tactic(auto)]
+
 ghost use Rattle.methods.specs.Laws.{SystematicTakes, SystematicSound, PivotalSound, PoissonSound};
 
 /// The laws of the plain methods stand.

@@ -1,5 +1,7 @@
 //! Trees of outcomes: what a design means, with exact whole-number weights.
 //! The definitions are in specs/; the function below has the gate ask for their laws.
+#![tactic(auto)]
+
 ghost use Rattle.outcomes.specs.Laws.{Positive, Martingale, Certain, Sequence, Averages, Counting, Listed, Reached, EquallyLikely};
 
 /// The laws of trees of outcomes stand.

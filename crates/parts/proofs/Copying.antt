@@ -1,11 +1,11 @@
 -- What is copied out of the design below.
-use Rattle.std.proofs.Common.{◌≡◌, ℕ, ◌+◌, ◌-◌, ◌<◌, ◌≤◌, Bool, true, false, cond, ◌&&◌, T, ltb, leb, ◌≢◌, ◌⊎◌, List, length, get_or, set, Ok, sym, refl, ap, ◌∙◌, subst, ap₂, inl, inr, arith, le-ltb, lt-ltb, le-leb}
+use Rattle.std.proofs.Common.{◌≡◌, ℕ, ◌+◌, ◌-◌, ◌<◌, ◌≤◌, Bool, true, false, cond, ◌&&◌, T, ltb, ◌≢◌, ◌⊎◌, List, length, get_or, set, Ok, sym, refl, ap, ◌∙◌, subst, ap₂, inl, inr, arith, le-ltb, lt-ltb, le-leb}
 use borrow.Author.Tests.{lt-leb}
 use Rattle.std.proofs.lemmas.List.{get_or-set_same, get_or-set_other}
 use Rattle.std.proofs.lemmas.Bool.{cases_lt}
 use Rattle.outcomes.specs.Trees.{Tree, finished, branching, Sample, HasWays, Always, ways}
 use Rattle.outcomes.proofs.Trees.{average_one}
-use Rattle.design.specs.Design.{Plan, refuses, accepts, Run, Standing, no_run, in_run, Shared, Taken}
+use Rattle.design.specs.Design.{Plan, refuses, accepts, Standing, no_run, in_run, Shared, Taken}
 use Rattle.parts.specs.Series.{numerator_of, denominator_of}
 use Rattle.parts.specs.Copying.{outcome_in, outcome_of, Over, Fresh, written}
 

@@ -1,11 +1,11 @@
 -- From one chosen part to the next.
-use Rattle.std.proofs.Common.{◌≡◌, ℕ, zero, suc, ◌+◌, ◌-◌, ◌<◌, ◌≤◌, Bool, true, false, cond, ◌&&◌, ltb, leb, ◌⊎◌, List, [], ◌∷◌, length, get_or, drop, is_ok, Ok, Err, Result, sym, refl, ap, ◌∙◌, subst, ap₂, inl, inr, add-zero, add-one, arith, le-ltb, lt-ltb}
+use Rattle.std.proofs.Common.{◌≡◌, ℕ, zero, suc, ◌+◌, ◌-◌, ◌<◌, ◌≤◌, Bool, true, false, cond, ◌&&◌, ltb, leb, List, [], ◌∷◌, length, get_or, drop, is_ok, Ok, Err, Result, sym, refl, ap, ◌∙◌, subst, ap₂, add-zero, add-one, arith, le-ltb, lt-ltb}
 use mathlib.Core.Path.{fun_ext}
 use mathlib.Core.Bool.{false≢true}
 use Rattle.std.proofs.lemmas.List.{drop-drop}
-use Rattle.outcomes.specs.Trees.{Tree, finished, Sample, Lawful, ways}
+use Rattle.outcomes.specs.Trees.{Tree, Sample, Lawful, ways}
 use Rattle.outcomes.proofs.Trees.{lawful_ways}
-use Rattle.design.specs.Design.{Plan, refuses, accepts, Run, Standing, no_run, in_run, Began, SoundPlan, ways_of}
+use Rattle.design.specs.Design.{Plan, refuses, accepts, Run, Standing, in_run, Began, SoundPlan}
 use Rattle.design.specs.declared.fault.Fault.{Fault}
 use Rattle.design.specs.declared.row.Row.{Row}
 use Rattle.parts.specs.Parts.{Part}

@@ -1,12 +1,12 @@
 -- The parts are the runs of rows that are alike.
-use Rattle.std.proofs.Common.{◌≡◌, ℕ, zero, suc, ◌+◌, ◌-◌, ◌<◌, ◌≤◌, Bool, true, false, cond, leb, ◌⊎◌, ◌↔◌, List, [], ◌∷◌, length, get_or, sym, refl, ap, ◌∙◌, subst, inl, inr, arith, le-leb}
+use Rattle.std.proofs.Common.{◌≡◌, ℕ, suc, ◌+◌, ◌-◌, ◌<◌, ◌≤◌, Bool, true, false, cond, leb, ◌↔◌, List, [], ◌∷◌, length, sym, refl, ap, ◌∙◌, subst, inl, inr, arith, le-leb}
 use mathlib.Core.Bool.{false≢true}
 use borrow.Author.Tests.{lt-leb}
 use Rattle.std.proofs.lemmas.Bool.{cases_lt}
 use Rattle.design.specs.Lists.{row_at}
 use Rattle.design.specs.declared.row.Row.{Row}
-use Rattle.parts.specs.Parts.{starts, bounds, cut}
-use Rattle.parts.specs.Bounds.{Steps, seats}
+use Rattle.parts.specs.Parts.{starts, bounds}
+use Rattle.parts.specs.Bounds.{seats}
 use Rattle.parts.specs.Laws.{PartsAreRuns}
 use Rattle.parts.proofs.Cuts.{rising_bounds, seat_place}
 

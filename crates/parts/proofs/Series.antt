@@ -1,5 +1,5 @@
 -- The trees of parts one after another: the share of each unit.
-use Rattle.std.proofs.Common.{◌≡◌, ℕ, suc, ◌+◌, ◌-◌, ◌*◌, ◌<◌, ◌≤◌, Bool, true, false, cond, List, [], ◌∷◌, length, sym, refl, ap, ◌∙◌, subst, arith}
+use Rattle.std.proofs.Common.{◌≡◌, ℕ, suc, ◌+◌, ◌-◌, ◌*◌, ◌<◌, ◌≤◌, Bool, true, false, cond, List, [], ◌∷◌, length, refl, ap, ◌∙◌, subst, arith}
 use Rattle.outcomes.specs.Trees.{Tree, bind, weight, expect, Sample, Average, HasWays, Every, Lawful}
 use Rattle.outcomes.proofs.Trees.{expect_every, expect_constant, expect_same, expect_scale, every_map, every_all, lawful_ways}
 use Rattle.outcomes.proofs.Sequences.{every_bind, first_kept, second_kept, sequence_average}

@@ -1,5 +1,5 @@
 -- The shares of a series under way.
-use Rattle.std.proofs.Common.{◌≡◌, ℕ, ◌+◌, ◌-◌, ◌*◌, ◌<◌, ◌≤◌, Bool, true, false, cond, List, length, drop, sym, refl, ap, ◌∙◌, subst, ap₂, arith}
+use Rattle.std.proofs.Common.{◌≡◌, ℕ, ◌+◌, ◌-◌, ◌*◌, ◌<◌, ◌≤◌, Bool, true, false, cond, List, length, drop, sym, refl, ◌∙◌, subst, ap₂, arith}
 use Rattle.outcomes.specs.Trees.{Tree, finished, Sample, weight, expect, Average, HasWays}
 use Rattle.outcomes.proofs.Trees.{lawful_ways}
 use Rattle.design.specs.Design.{Run, SoundPlan}

@@ -1,18 +1,17 @@
 -- The calls of a series under way: ways, step and share, and what holds of every run that stands.
-use Rattle.std.proofs.Common.{◌≡◌, ℕ, zero, suc, ◌+◌, ◌-◌, ◌^◌, ◌<◌, ◌≤◌, Bool, true, false, cond, T, ltb, ◌⊎◌, List, [], ◌∷◌, length, get_or, drop, Ok, Err, Result, sym, refl, ap, ◌∙◌, subst, ap₂, inl, inr, true≢false, add-one, arith, ltb-false, ltb-true, le-ltb, lt-ltb}
-use mathlib.Core.Bool.{false≢true}
+use Rattle.std.proofs.Common.{◌≡◌, ℕ, suc, ◌+◌, ◌-◌, ◌^◌, ◌<◌, ◌≤◌, Bool, true, false, cond, T, ltb, ◌⊎◌, List, [], ◌∷◌, length, get_or, drop, Ok, Err, Result, sym, refl, ap, ◌∙◌, subst, ap₂, inl, inr, add-one, arith, le-ltb, lt-ltb}
 use native.Mathlib.Decide.{ℕ_discrete}
 use Rattle.std.proofs.lemmas.List.{get_or_past}
 use Rattle.std.proofs.lemmas.Bool.{cases_lt}
 use Rattle.outcomes.specs.Trees.{Tree, finished, branching, Sample, Average, Lawful, ways, subtree, bind}
 use Rattle.design.specs.Faults.{numbered, refusal}
-use Rattle.design.specs.Design.{Run, Standing, no_run, in_run, Fair, Stepped, Shared, SoundPlan, SoundRun, SoundStanding, ways_of, below}
+use Rattle.design.specs.Design.{Run, Standing, no_run, in_run, Stepped, Shared, SoundPlan, SoundStanding, ways_of, below}
 use Rattle.design.specs.declared.fault.Fault.{Fault}
 use Rattle.design.specs.declared.row.Row.{Row}
 use Rattle.parts.specs.Series.{Plans, plan_for, denominator_of, joined, series, resumed, denominators, numerators}
 use Rattle.parts.specs.Bounds.{Steps, Rising}
 use Rattle.parts.specs.Seats.{Seated}
-use Rattle.parts.specs.Running.{Tables, all_parts, first_row_of, part_at, is_chosen, so_far, ahead, run_over, has_present, standing_by, standing_of, Loaded, Within, Present, Underway, Settled, Intact}
+use Rattle.parts.specs.Running.{Tables, all_parts, first_row_of, part_at, is_chosen, so_far, ahead, run_over, has_present, standing_by, standing_of, Within, Present, Underway, Settled, Intact}
 use Rattle.parts.proofs.Seats.{chain, apart_after, seat_row, seat_unit}
 use Rattle.parts.proofs.Series.{X, apart_chosen, accepted_chosen}
 use Rattle.parts.proofs.Shares.{accepted_at, share_over, share_behind, share_present, share_ahead}

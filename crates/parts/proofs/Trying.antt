@@ -1,5 +1,5 @@
 -- A design tried on every part of a list.
-use Rattle.std.proofs.Common.{◌≡◌, ℕ, ◌+◌, ◌-◌, ◌<◌, ◌≤◌, ◌⊎◌, List, [], ◌∷◌, length, get_or, take, drop, Some, None, Ok, Err, Option, sym, refl, ap, ◌∙◌, subst, inl, inr, arith}
+use Rattle.std.proofs.Common.{◌≡◌, ℕ, ◌+◌, ◌-◌, ◌<◌, ◌≤◌, ◌⊎◌, List, length, get_or, drop, Some, None, Ok, Err, Option, sym, refl, ap, ◌∙◌, subst, inl, inr, arith}
 use Rattle.std.proofs.lemmas.Bool.{cases_lt}
 use Rattle.outcomes.proofs.Trees.{lawful_ways}
 use Rattle.design.specs.Faults.{Refusal, numbered, Answers}
@@ -8,13 +8,12 @@ use Rattle.design.specs.declared.fault.Fault.{Fault}
 use Rattle.design.specs.declared.row.Row.{Row}
 use Rattle.parts.specs.Parts.{Part}
 use Rattle.parts.specs.Series.{Plans, plan_for, numerator_of, denominator_of, per_unit, refused_or, part_refusal}
-use Rattle.parts.specs.Bounds.{Accepted, Rising}
-use Rattle.parts.specs.Seats.{Seated}
+use Rattle.parts.specs.Bounds.{Rising}
 use Rattle.parts.specs.Running.{Tables, all_parts, sample_of, first_row_of, part_at, Loaded}
 use Rattle.parts.specs.Copying.{Fresh, written}
 use Rattle.parts.specs.Trying.{with_shares, WrittenIn, Tried, Trial}
 use Rattle.parts.proofs.Places.{rising_zero, rising_last, cut_done}
-use Rattle.parts.proofs.Seats.{split, bounded, rows_of, seat_unit}
+use Rattle.parts.proofs.Seats.{split, rows_of, seat_unit}
 use Rattle.parts.proofs.Copying.{written_in, written_before}
 use Rattle.parts.proofs.Lawfuls.{all_accepted}
 

@@ -1,7 +1,7 @@
 -- What is copied out of the design below.
-use Rattle.std.specs.Prelude.{◌≡◌, ℕ, ◌-◌, ◌<◌, Bool, cond, ◌&&◌, nat_le, nat_lt}
+use Rattle.std.specs.Prelude.{◌≡◌, ℕ, ◌-◌, ◌<◌, cond, ◌&&◌, nat_le, nat_lt}
 use Rattle.outcomes.specs.Trees.{Tree, finished, branching, Sample, HasWays, ways}
-use Rattle.design.specs.Design.{Plan, refuses, accepts, Run, Standing, no_run, in_run, Fair}
+use Rattle.design.specs.Design.{Plan, refuses, accepts, Standing, no_run, in_run, Fair}
 use Rattle.parts.specs.Series.{nothing}
 
 -- the outcome of a finished tree, and of a finished run

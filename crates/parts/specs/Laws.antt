@@ -1,5 +1,5 @@
 -- The laws of parts and of a design's trees over them, as statements.
-use Rattle.std.specs.Prelude.{◌≡◌, ℕ, ◌+◌, ◌*◌, ◌<◌, ◌≤◌, Bool, true, ◌↔◌, List, length}
+use Rattle.std.specs.Prelude.{◌≡◌, ℕ, ◌+◌, ◌*◌, ◌<◌, Bool, true, ◌↔◌, List, length}
 use Rattle.outcomes.specs.Trees.{Tree, Sample, Share, HasWays, bind}
 use Rattle.design.specs.Design.{SoundPlan}
 use Rattle.design.specs.Lists.{row_at}

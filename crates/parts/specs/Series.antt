@@ -1,8 +1,8 @@
 -- A design run on parts of a list, one after another.
-use Rattle.std.specs.Prelude.{ℕ, suc, ◌+◌, ◌-◌, Bool, false, cond, List, [], ◌∷◌, Some, None, Option}
+use Rattle.std.specs.Prelude.{ℕ, suc, ◌+◌, ◌-◌, min, false, cond, List, [], ◌∷◌, Some, None, Option}
 use Rattle.outcomes.specs.Trees.{Tree, finished, Sample, bind}
-use Rattle.design.specs.Faults.{Refusal, refusal_passed_up}
-use Rattle.design.specs.Design.{Plan, refuses, accepts, Run}
+use Rattle.design.specs.Faults.{Refusal}
+use Rattle.design.specs.Design.{Plan, refuses, accepts}
 use Rattle.design.specs.declared.row.Row.{Row}
 use Rattle.parts.specs.Parts.{Part, holds}
 
@@ -60,9 +60,12 @@ numerators B ps = per_unit (λ p. numerator_of (plan_for B p)) ps
 abbrev pub denominators : Plans → List Part → ℕ → ℕ
 denominators B ps = per_unit (λ p. denominator_of (plan_for B p)) ps
 
--- the refusal of a plan for a part whose first row is `at`, with that row added, or else this one
+-- a refusal from below, of a part whose first row is `at`: that row added, and 1 to the depth, up to 255
+abbrev pub raised : ℕ → Refusal → Refusal
+raised at f = record { number = f.number; row = at + f.row; depth = min 255 (f.depth + 1) }
+
 abbrev pub refused_or : ℕ → Plan → Option Refusal → Option Refusal
-refused_or at (refuses f) o = Some (refusal_passed_up (at + f.row) f)
+refused_or at (refuses f) o = Some (raised at f)
 refused_or at (accepts num run) o = o
 
 -- the first refusal of the parts, in order

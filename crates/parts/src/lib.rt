@@ -1,4 +1,6 @@
 //! Parts of a list, and a design's trees over them one after another: definitions in specs/, and their laws.
+#![tactic(auto)]
+
 ghost use Rattle.parts.specs.Laws.{PartsAreRuns, SeriesFair, StagesFair};
 
 /// The laws of parts and of series of trees stand.

@@ -1,4 +1,6 @@
 //! Ordered pivotal drawing, as code.
+#![tactic(auto)]
+
 mod duel;
 
 ghost use Rattle.std.specs.Prelude.{◌≡◌, true, false, IfOk};

@@ -1,4 +1,6 @@
 //! Poisson drawing, as code.
+#![tactic(auto)]
+
 ghost use Rattle.std.specs.Prelude.{◌≡◌, true, false, IfOk, if◌then◌else◌, nat_lt};
 ghost use Rattle.methods.specs.Poisson.{poisson_plan};
 ghost use Rattle.methods.specs.PoissonRuns.{poisson_tree, Held};

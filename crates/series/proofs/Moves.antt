@@ -5,7 +5,7 @@ use Rattle.std.proofs.lemmas.List.{get_or_past, get_or-replicate, length-replica
 use Rattle.std.proofs.lemmas.Bool.{cases_lt, lt-ltb}
 use Rattle.outcomes.specs.Trees.{Sample}
 use Rattle.outcomes.proofs.Trees.{lawful_ways}
-use Rattle.design.specs.Design.{Run, Standing, no_run, in_run, Began, Stepped, SoundPlan, ways_of, below}
+use Rattle.design.specs.Design.{Standing, no_run, in_run, Began, Stepped, SoundPlan, ways_of, below}
 use Rattle.design.specs.declared.fault.Fault.{Fault}
 use Rattle.design.specs.declared.row.Row.{Row}
 use Rattle.parts.specs.Copying.{Over, outcome_of, written}

@@ -1,10 +1,10 @@
 -- From part to part of a series.
-use Rattle.std.specs.Prelude.{◌≡◌, ℕ, ◌<◌, Bool, true, List, length}
+use Rattle.std.specs.Prelude.{◌≡◌, ℕ, ◌<◌, Bool, List, length}
 use Rattle.outcomes.specs.Trees.{Sample}
 use Rattle.design.specs.Design.{ways_of}
 use Rattle.design.specs.declared.design.Design as Design
-use Rattle.parts.specs.Running.{Tables, first_row_of, is_chosen, Loaded, NoneFrom}
-use Rattle.series.specs.Of.{plans, tables_of, IsLoaded}
+use Rattle.parts.specs.Running.{Tables, first_row_of, is_chosen, NoneFrom}
+use Rattle.series.specs.Of.{tables_of, IsLoaded}
 use Rattle.series.specs.declared.Series.{Series}
 
 -- the series can go on to the part j: no unit from there on is taken yet

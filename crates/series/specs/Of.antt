@@ -1,5 +1,5 @@
 -- What a series stands for, over the meaning G of the design below.
-use Rattle.std.specs.Prelude.{◌≡◌, ℕ}
+use Rattle.std.specs.Prelude.{◌≡◌}
 use Rattle.design.specs.Design.{Standing}
 use Rattle.design.specs.declared.design.Design as Design
 use Rattle.parts.specs.Running.{Tables, standing_of, Loaded, Underway, Intact}

@@ -1,4 +1,6 @@
 //! A design that runs on the parts of a list, one after another: what the layers over any design share.
+#![tactic(auto)]
+
 use design::design::Design;
 use table::Table;
 

@@ -3,7 +3,7 @@ ghost use Rattle.parts.specs.Bounds.{Rising};
 
 use design::row::Row;
 
-pub(crate) mod making;
+pub mod making;
 mod reading;
 
 /// A list cut into parts, and how far a design has come that runs on the chosen ones in turn. By units: the rows, the prescribed

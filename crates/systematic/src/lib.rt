@@ -1,4 +1,6 @@
 //! Systematic drawing, as code.
+#![tactic(auto)]
+
 ghost use Rattle.std.specs.Prelude.{◌≡◌, ◌<◌, ◌≤◌, true, false, length, IfOk};
 ghost use Rattle.methods.specs.Holdings.{Within};
 ghost use Rattle.methods.specs.Systematic.{systematic_plan};

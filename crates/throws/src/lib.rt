@@ -1,3 +1,5 @@
 //! Sources of words, and throws made of their words.
+#![tactic(auto)]
+
 pub mod source;
 pub mod throw;

@@ -2,15 +2,15 @@ use Rattle.std.proofs.Common.{ℕ, ◌+◌, ◌<◌, ◌≤◌, length, Option, 
 use Rattle.methods.proofs.PivotalCalls.{Going, going_full, going_first, going_end}
 use Rattle.plain.specs.Of.{whole, held}
 use Rattle.pivotal.proofs.next_duel.Goals as goal
-use Rattle.pivotal.proofs.next_duel.Goals.{then-get-total+else-is-some, else-get-total}
+use Rattle.pivotal.proofs.next_duel.Goals.{then-get-total+else-is_some, else-get-total}
 
 pub loop-at-init : goal.loop-at-init
 loop-at-init c = (c.requires, refl)
 
-pub returns-then-is-some : goal.returns-then-is-some
-returns-then-is-some c = record {
+pub returns-then-is_some : goal.returns-then-is_some
+returns-then-is_some c = record {
   held = c.loop-at.invariant.0;
-  ready = λ _. (sym c.if-is-some.ensures, λ e. c.if-get-total.true (c.get.ensures ∙ e ∙ sym c.total.ensures));
+  ready = λ _. (sym c.if-is_some.ensures, λ e. c.if-get-total.true (c.get.ensures ∙ e ∙ sym c.total.ensures));
   same = c.loop-at.invariant.1;
 }
 
@@ -21,9 +21,9 @@ loop-at-preserved c =
     let more : l.at < length (held u) = subst (λ n. l.at < n) c.units-at-end.ensures c.loop-at-test.true in
     let P : Option ℕ → Type 0 = λ w. Going (whole u) (held u) c.args.called c.args.pending (l.at + 1) w in
     elim c.if-get-total.branch [
-      | then-get-total+else-is-some w ↦ subst P (sym w.waiting-is)
+      | then-get-total+else-is_some w ↦ subst P (sym w.waiting-is)
           (going_first (whole u) (held u) c.args.called c.args.pending l.at l.waiting l.invariant more
-          (λ e. w.if-get-total.true (c.get.ensures ∙ e ∙ sym c.total.ensures)) (sym w.is-some.ensures ∙ w.if-is-some.false))
+          (λ e. w.if-get-total.true (c.get.ensures ∙ e ∙ sym c.total.ensures)) (sym w.is_some.ensures ∙ w.if-is_some.false))
       | else-get-total w ↦ subst P (sym w.waiting-is)
           (going_full (whole u) (held u) c.args.called c.args.pending l.at l.waiting l.invariant more
           (sym c.get.ensures ∙ w.if-get-total.false ∙ c.total.ensures))

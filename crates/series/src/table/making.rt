@@ -11,8 +11,8 @@ use design::fault::Fault;
 use design::row::Row;
 use std::alloc::{AllocError, Global};
 
-// n times x, and nothing else.
-pub(crate) fn fill<T: Copy>(v: &mut Vec<T>, n: usize, x: T)
+/// n times x, and nothing else.
+pub fn fill<T: Copy>(v: &mut Vec<T>, n: usize, x: T)
     requires { n ≤ vec_capacity v.old }
     ensures items { v.new.items ≡ replicate n x }
     ensures len { vec_len v.new ≡ n }
@@ -24,8 +24,8 @@ pub(crate) fn fill<T: Copy>(v: &mut Vec<T>, n: usize, x: T)
     }
 }
 
-// The items, and nothing else.
-pub(crate) fn copy<T: Copy>(items: &[T], v: &mut Vec<T>)
+/// The items, and nothing else.
+pub fn copy<T: Copy>(items: &[T], v: &mut Vec<T>)
     requires { length items.now ≤ vec_capacity v.old }
     ensures items { v.new.items ≡ items.now }
     ensures len { vec_len v.new ≡ length items.now }

@@ -16,12 +16,12 @@ loop-i-preserved c =
             | then-point-sum w ↦ inl (
               subst (λ x. l.point < l.sum + x) c.get.ensures w.if-point-sum.true,
               ap held w.units-is ∙ w.set.ensures.held ∙ ap (λ x. set (held l.units) l.i x) c.total-total.ensures,
-              w.point_is ∙ ap (λ x. l.point + x) c.total-total.ensures,
+              w.point-is ∙ ap (λ x. l.point + x) c.total-total.ensures,
             )
             | else-point-sum w ↦ inr (
               subst (λ x. l.sum + x ≤ l.point) c.get.ensures w.if-point-sum.false,
               ap held w.units-is ∙ w.set-else-point-sum.ensures.held,
-              w.point_is,
+              w.point-is,
             )
           ])),
       elim j.branch [

@@ -5,26 +5,26 @@ use Rattle.plain.specs.Of.{runs, whole, held}
 use Rattle.plain.proofs.Begun.{begun}
 use Rattle.pivotal.proofs.PivotalDesign.begin.Goals as goal
 
-pub invariant-of-self : goal.invariant-of-self
-invariant-of-self c = (∣ (λ e. no_way (sym e ∙ c.in-err-begin.ensures.ended)) ∣₁, tt)
+pub invariant_of-self : goal.invariant_of-self
+invariant_of-self c = record { holding = ∣ (λ e. no_way (sym e ∙ c.in_err-begin.ensures.ended)) ∣₁ }
 
-pub next-duel-called-requires : goal.next-duel-called-requires
-next-duel-called-requires c =
+pub next_duel-called-requires : goal.next_duel-called-requires
+next_duel-called-requires c =
     let u = c.begin.new.self in
-    let b = begun c.args.list.now c.args.n u tt c.in-ok-begin.ensures.answers in
+    let b = begun c.args.list.now c.args.n u tt c.in_ok-begin.ensures.answers in
     held_begun c.args.list.now c.args.n (whole u) (held u) b.prepares
 
-pub invariant-of-self-2 : goal.invariant-of-self-2
-invariant-of-self-2 c = (∣ (λ e. (c.next-duel-called.ensures.held, c.next-duel-called.ensures.ready)) ∣₁, tt)
+pub invariant_of-self-2 : goal.invariant_of-self-2
+invariant_of-self-2 c = record { holding = ∣ (λ e. (c.next_duel-called.ensures.held, c.next_duel-called.ensures.ready)) ∣₁ }
 
 pub returns : goal.returns
 returns c =
     let u = c.begin.new.self in
-    let b = begun c.args.list.now c.args.n u tt c.in-ok-begin.ensures.answers in
+    let b = begun c.args.list.now c.args.n u tt c.in_ok-begin.ensures.answers in
     record {
       begun =
-          run-begun c.args.list.now c.args.n (runs u) (whole u) (held u) c.next-duel-called.result.0 c.next-duel-called.result.1 tt b.prepares b.runs_now
-          c.next-duel-called.ensures.same;
+          run-begun c.args.list.now c.args.n (runs u) (whole u) (held u) c.next_duel-called.result.0 c.next_duel-called.result.1 tt b.prepares b.runs_now
+          c.next_duel-called.ensures.same;
       whole = tt;
       settings = refl;
     }

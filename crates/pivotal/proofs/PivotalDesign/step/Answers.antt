@@ -25,8 +25,8 @@ returns-then-d-ways c =
       settings = refl;
     }
 
-pub next-duel-called-requires : goal.next-duel-called-requires
-next-duel-called-requires c =
+pub next_duel-called-requires : goal.next_duel-called-requires
+next_duel-called-requires c =
     let s = c.args.self.now in
     let u = c.set-2.new.self in
     let duel = c.in-Some.duel in
@@ -39,8 +39,8 @@ next-duel-called-requires c =
     subst (λ t. Held t (held u) (s.called + 1) c.keeper.result) (sym (c.set-2.ensures.whole ∙ c.set.ensures.whole))
     (held_fought (runs s.units) (whole s.units) (held s.units) s.called s.pending duel.pending duel.a duel.b c.args.d x y c.keeper.result (held u) w due.0 f)
 
-pub invariant-of-self : goal.invariant-of-self
-invariant-of-self c = (∣ (λ e. (c.next-duel-called.ensures.held, c.next-duel-called.ensures.ready)) ∣₁, tt)
+pub invariant_of-self : goal.invariant_of-self
+invariant_of-self c = record { holding = ∣ (λ e. (c.next_duel-called.ensures.held, c.next_duel-called.ensures.ready)) ∣₁ }
 
 pub returns : goal.returns
 returns c =
@@ -60,9 +60,9 @@ returns c =
       stepped = λ _. (
         subst (λ m. c.args.d < m) is c.if-d-ways.false,
         step_at (runs s.units) (whole s.units) (held s.units) s.called s.pending duel.pending duel.a duel.b c.args.d x y c.keeper.result (held u) w due.0 f
-            (runs u) (whole u) c.next-duel-called.result.0 c.next-duel-called.result.1 (c.set-2.ensures.runs ∙ c.set.ensures.runs) all
-            (subst (λ t. pivotal_tree t (held u) c.next-duel-called.result.0 c.next-duel-called.result.1 ≡ pivotal_tree t (held u) (s.called + 1) c.keeper.result) all
-            c.next-duel-called.ensures.same),
+            (runs u) (whole u) c.next_duel-called.result.0 c.next_duel-called.result.1 (c.set-2.ensures.runs ∙ c.set.ensures.runs) all
+            (subst (λ t. pivotal_tree t (held u) c.next_duel-called.result.0 c.next_duel-called.result.1 ≡ pivotal_tree t (held u) (s.called + 1) c.keeper.result) all
+            c.next_duel-called.ensures.same),
       );
       whole = λ _. tt;
       settings = refl;

@@ -3,23 +3,22 @@ use Rattle.methods.proofs.Poissons.{open_at, step_at, held_step}
 use Rattle.plain.specs.Of.{runs, whole, held}
 use Rattle.poisson.proofs.PoissonDesign.step.Goals as goal
 
-pub overflow-add-self : goal.overflow-add-self
-overflow-add-self c =
+pub overflow_add-self : goal.overflow_add-self
+overflow_add-self c =
     let s = c.args.self.now in
     let o = open_at (runs s.units) (whole s.units) (held s.units) s.called c.ways-ways.result s.holding (c.ways-ways.ensures tt) c.if-ways-eq0.false in
     let few : s.called ≤ 1024 = omega (arith, o.more, s.units.few, s.units.holds.ok.0) in
     search rules
 
-pub invariant-of-self : goal.invariant-of-self
-invariant-of-self c =
+pub invariant_of-self : goal.invariant_of-self
+invariant_of-self c =
     let s = c.args.self.now in
     let u = c.set.new.self in
     let o = open_at (runs s.units) (whole s.units) (held s.units) s.called c.ways-ways.result s.holding (c.ways-ways.ensures tt) c.if-ways-eq0.false in
-    let left = c.settled.ensures ∙ ap₂ (λ g m. cond (ltb c.args.d g) m 0) c.get-goal.ensures o.whole in (
-      ∣ (λ e. held_step (whole s.units) (held s.units) s.called (whole u) (held u) c.settled.result (ltb c.args.d (get_or (held s.units) s.called 0))
-          c.set.ensures.whole c.set.ensures.held o.held_now o.more left) ∣₁,
-      tt,
-    )
+    let left = c.settled.ensures ∙ ap₂ (λ g m. cond (ltb c.args.d g) m 0) c.get-goal.ensures o.whole in record {
+      holding = ∣ (λ e. held_step (whole s.units) (held s.units) s.called (whole u) (held u) c.settled.result (ltb c.args.d (get_or (held s.units) s.called 0))
+          c.set.ensures.whole c.set.ensures.held o.held_now o.more left) ∣₁;
+    }
 
 pub returns : goal.returns
 returns c =

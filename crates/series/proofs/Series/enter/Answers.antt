@@ -1,4 +1,4 @@
-use Rattle.std.proofs.Common.{ℕ, Bool, List, sym, refl, ap, ◌∙◌, subst, arith}
+use Rattle.std.proofs.Common.{ℕ, Bool, List, refl, subst, arith}
 use Rattle.design.specs.Design.{Began}
 use Rattle.design.specs.declared.row.Row.{Row}
 use Rattle.parts.specs.Running.{NextChosen, sample_of}
@@ -13,9 +13,9 @@ returns-then-j-count g c =
     let s = c.args.self.now in
     let t = s.table in
     let v = tables_of s in
-    let j = c.next-set-j.result in
+    let j = c.next_set-j.result in
     let B = g.D.Design.plan s.below in
-    let next = subst (λ (xs : List Bool). NextChosen xs c.args.from j) c.deref.ensures.value c.next-set-j.ensures in
+    let next = subst (λ (xs : List Bool). NextChosen xs c.args.from j) c.deref.ensures.value c.next_set-j.ensures in
     record {
       forward = next.low;
       same = stage_kept v j;
@@ -34,8 +34,8 @@ returns-else-j-count g c =
     let s = c.args.self.now in
     let t = s.table in
     let v = tables_of s in
-    let j = c.next-set-j.result in
-    let next = subst (λ (xs : List Bool). NextChosen xs c.args.from j) c.deref.ensures.value c.next-set-j.ensures in
+    let j = c.next_set-j.result in
+    let next = subst (λ (xs : List Bool). NextChosen xs c.args.from j) c.deref.ensures.value c.next_set-j.ensures in
     record {
       forward = next.low;
       same = stage_kept v j;

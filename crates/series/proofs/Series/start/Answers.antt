@@ -1,19 +1,18 @@
-use Rattle.std.proofs.Common.{ℕ, Bool, false, List, get_or, vec_items, ap, ◌∙◌}
-use Rattle.parts.specs.Running.{Loaded, run_from, so_far, with_taken}
+use Rattle.std.proofs.Common.{Bool, false, List, get_or, vec_items, ap, ◌∙◌}
+use Rattle.parts.specs.Running.{run_from}
 use Rattle.parts.specs.Series.{nothing}
-use Rattle.series.specs.Moving.{CanEnter}
-use Rattle.series.specs.Of.{IsIntact, IsLoaded, plans, standing, tables_of}
+use Rattle.series.specs.Of.{IsIntact, plans, standing, tables_of}
 use Rattle.series.proofs.Moves.{moved_trans, same_trans, same_taken, none_taken, run_fresh, loaded_taken}
 use Rattle.series.proofs.Series.start.Goals as goal
 
-pub returns-in-err-enter : goal.returns-in-err-enter
-returns-in-err-enter g c =
+pub returns-in_err-enter : goal.returns-in_err-enter
+returns-in_err-enter g c =
     let s = c.args.self.now in
     let taken = vec_items c.fill.new.v in
     record {
       same = same_taken (tables_of s) taken (tables_of c.enter.new.self) c.enter.ensures.same;
       settings = c.enter.ensures.settings;
-      started = λ h. absurd (c.in-err-enter.ensures.entered (record {
+      started = λ h. absurd (c.in_err-enter.ensures.entered (record {
         loaded = loaded_taken (plans g.D.Design s) (tables_of s) taken h;
         none = λ k l. ap (λ (xs : List Bool). get_or xs k false) c.fill.ensures.items ∙ none_taken c.units-units.result k;
       }));
@@ -31,7 +30,7 @@ returns g c =
       same = same_trans v (tables_of e) (tables_of x) (same_taken v taken (tables_of e) c.enter.ensures.same) c.settle.ensures.same;
       settings = c.settle.ensures.settings ∙ c.enter.ensures.settings;
       started = λ h.
-          let m = c.in-ok-enter.ensures.entered (record {
+          let m = c.in_ok-enter.ensures.entered (record {
             loaded = loaded_taken B v taken h;
             none = λ k l. ap (λ (xs : List Bool). get_or xs k false) c.fill.ensures.items ∙ none_taken c.units-units.result k;
           }) in

@@ -19,9 +19,9 @@ both g c h =
     let I = g.D.Design.intact s.below in
     let st = g.D.Design.tree s.below in
     let to = g.D.Design.tree c.step.new.self in
-    let has : has_present v ≡ true = sym c.has-part.ensures ∙ c.if-not-has-part.false in
+    let has : has_present v ≡ true = sym c.has_part.ensures ∙ c.if-not-has_part.false in
     let i = present_intact I B v st h.underway has in
-    let gone = c.in-ok-step.ensures.stepped i in
+    let gone = c.in_ok-step.ensures.stepped i in
     let down = stepped_down I (g.D.Design.intact c.step.new.self) B v st to c.args.d h.underway has (c.step.ensures.whole i) gone.0 gone.1 in
     let ways : ways_of (standing g.D.Design s) ≡ ways_of st = ways_are I B v st h ∙ ap (λ b. cond b (ways_of st) 0) has in
     stepped_by c.settle.result (IsIntact g.D.Design x) (standing g.D.Design x) (standing_of C v to) (standing g.D.Design s) c.args.d

@@ -15,39 +15,39 @@ loop-j-init g c =
     let s = c.args.self.now in
     (refl, refl, trial_start (plans g.D.Design s) (tables_of s) (rising s.table) (tables_of s).nums (tables_of s).dens)
 
-pub try-part-requires : goal.try-part-requires
-try-part-requires g c =
+pub try_part-requires : goal.try_part-requires
+try_part-requires g c =
     let s = c.args.self.now in
     let l = c.loop-j.self in
     omega (arith, c.loop-j-test.true, c.count-j-end.ensures, counted s.table, s.table.chosen.ok.0, l.table.chosen.ok.0, ap (λ (v : Tables). length v.chosen) c.loop-j.invariant.1)
 
-pub returns-in-err-try-part : goal.returns-in-err-try-part
-returns-in-err-try-part g c =
+pub returns-in_err-try_part : goal.returns-in_err-try_part
+returns-in_err-try_part g c =
     let s = c.args.self.now in
     let l = c.loop-j in
-    let x = c.try-part.new.self in
-    let p = err_from_is_err_and c.from-residual.result c.from-residual.ensures.1 in
+    let x = c.try_part.new.self in
+    let p = err_from_is_err_and c.from_residual.result c.from_residual.ensures.1 in
     let place : l.j + 1 < length (tables_of s).bounds = omega (arith, c.loop-j-test.true, c.count-j-end.ensures, counted s.table, s.table.bounds.ok.0, s.table.chosen_all) in
     record {
-      tried = answers_err (part_refusal (plans g.D.Design s) (all_parts (tables_of s))) (λ _. Loaded (plans g.D.Design s) (tables_of x)) c.from-residual.result p.0 c.in-err-try-part.field-0.0 p.1 p.2
-          (trial_refused (plans g.D.Design s) (tables_of s) (rising s.table) (tables_of l.self).nums (tables_of l.self).dens l.j l.invariant.2 place (Unit {0}) c.in-err-try-part.field-0.0 (tables_of x).nums (tables_of x).dens
+      tried = answers_err (part_refusal (plans g.D.Design s) (all_parts (tables_of s))) (λ _. Loaded (plans g.D.Design s) (tables_of x)) c.from_residual.result p.0 c.in_err-try_part.field-0.0 p.1 p.2
+          (trial_refused (plans g.D.Design s) (tables_of s) (rising s.table) (tables_of l.self).nums (tables_of l.self).dens l.j l.invariant.2 place (Unit {0}) c.in_err-try_part.field-0.0 (tables_of x).nums (tables_of x).dens
           (tried_as (plans g.D.Design s) (plans g.D.Design l.self) (tables_of s) (tables_of l.self) l.j (tables_of l.self).nums (tables_of l.self).dens (tables_of x).nums (tables_of x).dens
-          (Err c.in-err-try-part.field-0.0) l.invariant.0 l.invariant.1 c.in-err-try-part.ensures.tried));
-      same = c.try-part.ensures.same ∙ ap (λ (w : Tables). with_shares w (tables_of x).nums (tables_of x).dens) l.invariant.1;
-      settings = c.try-part.ensures.settings ∙ l.invariant.0;
+          (Err c.in_err-try_part.field-0.0) l.invariant.0 l.invariant.1 c.in_err-try_part.ensures.tried));
+      same = c.try_part.ensures.same ∙ ap (λ (w : Tables). with_shares w (tables_of x).nums (tables_of x).dens) l.invariant.1;
+      settings = c.try_part.ensures.settings ∙ l.invariant.0;
     }
 
 pub loop-j-preserved : goal.loop-j-preserved
 loop-j-preserved g c =
     let s = c.args.self.now in
     let l = c.loop-j in
-    let x = c.try-part.new.self in
+    let x = c.try_part.new.self in
     let place : l.j + 1 < length (tables_of s).bounds = omega (arith, c.loop-j-test.true, c.count-j-end.ensures, counted s.table, s.table.bounds.ok.0, s.table.chosen_all) in (
-      c.try-part.ensures.settings ∙ l.invariant.0,
-      c.try-part.ensures.same ∙ ap (λ (w : Tables). with_shares w (tables_of x).nums (tables_of x).dens) l.invariant.1,
+      c.try_part.ensures.settings ∙ l.invariant.0,
+      c.try_part.ensures.same ∙ ap (λ (w : Tables). with_shares w (tables_of x).nums (tables_of x).dens) l.invariant.1,
       trial_step (plans g.D.Design s) (tables_of s) (rising s.table) (tables_of l.self).nums (tables_of l.self).dens l.j l.invariant.2 place tt (tables_of x).nums (tables_of x).dens
           (tried_as (plans g.D.Design s) (plans g.D.Design l.self) (tables_of s) (tables_of l.self) l.j (tables_of l.self).nums (tables_of l.self).dens (tables_of x).nums (tables_of x).dens
-          (Ok tt) l.invariant.0 l.invariant.1 c.in-ok-try-part.ensures.tried),
+          (Ok tt) l.invariant.0 l.invariant.1 c.in_ok-try_part.ensures.tried),
     )
 
 pub returns : goal.returns

@@ -1,4 +1,4 @@
-use Rattle.std.proofs.Common.{◌≡◌, ℕ, ◌-◌, ◌≤◌, get_or, vec_items, vec_len, vec_capacity}
+use Rattle.std.proofs.Common.{◌≡◌, ℕ, ◌-◌, get_or, vec_items, vec_len, vec_capacity}
 use Rattle.design.specs.Design.{Plan}
 use Rattle.parts.specs.Copying.{Fresh, written}
 use Rattle.parts.specs.Series.{numerator_of, denominator_of}

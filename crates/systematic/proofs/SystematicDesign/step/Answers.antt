@@ -10,12 +10,12 @@ strike-requires c =
     let h = o.holding in
     record { below = subst (λ m. c.args.d < m) o.whole c.if-d-ways.false; small = h.1; few = h.2; within = h.3 }
 
-pub invariant-of-self : goal.invariant-of-self
-invariant-of-self c =
+pub invariant_of-self : goal.invariant_of-self
+invariant_of-self c =
     let s = c.args.self.now in
     let u = c.strike.new.units in
     let o = open_at (runs s.units) (whole s.units) (held s.units) s.thrown c.ways-ways.result s.holding (c.ways-ways.ensures tt) c.if-ways-eq0.false in
-    (∣ (λ e. held_struck (whole s.units) (held s.units) s.thrown (whole u) (held u) c.args.d c.strike.ensures.whole o.holding c.strike.ensures.struck) ∣₁, tt)
+    record { holding = ∣ (λ e. held_struck (whole s.units) (held s.units) s.thrown (whole u) (held u) c.args.d c.strike.ensures.whole o.holding c.strike.ensures.struck) ∣₁ }
 
 pub returns : goal.returns
 returns c =

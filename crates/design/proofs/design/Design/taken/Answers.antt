@@ -3,6 +3,6 @@ use Rattle.design.proofs.design.Design.taken.Goals as goal
 
 pub returns : goal.returns
 returns g c i =
-    taken_by_share (g.Self.Design.tree c.args.self.now) c.args.k c.in-ok-part.part c.in-ok-part.whole
+    taken_by_share (g.Self.Design.tree c.args.self.now) c.args.k c.in_ok-part.part c.in_ok-part.whole
     (g.met.Self.Design.exact c.args.self.now i)
-    (c.in-ok-part.ensures i)
+    (c.in_ok-part.ensures i)

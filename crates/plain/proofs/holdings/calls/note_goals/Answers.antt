@@ -21,9 +21,9 @@ loop-i-preserved c =
     let n = c.args.n in
     let i = c.loop-i.i in (
       above_more list n i c.args.total c.requires.total c.loop-i.invariant.0 c.if-goal-total.false,
-      c.push-reserved.ensures.items ∙ ap (λ xs. xs ++ n * size_at list i ∷ []) c.loop-i.invariant.1 ∙ sym (goals_more list n i c.loop-i-test.true),
-      omega (arith, c.push-reserved.ensures.len),
-      c.push-reserved.ensures.capacity ∙ c.loop-i.invariant.3,
+      c.push_reserved.ensures.items ∙ ap (λ xs. xs ++ n * size_at list i ∷ []) c.loop-i.invariant.1 ∙ sym (goals_more list n i c.loop-i-test.true),
+      omega (arith, c.push_reserved.ensures.len),
+      c.push_reserved.ensures.capacity ∙ c.loop-i.invariant.3,
     )
 
 pub returns : goal.returns

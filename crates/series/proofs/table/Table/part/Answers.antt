@@ -1,24 +1,24 @@
-use Rattle.std.proofs.Common.{◌≡◌, ◌+◌, ◌-◌, get_or, take, drop, vec_items, sym, ap, ◌∙◌, arith}
+use Rattle.std.proofs.Common.{◌≡◌, ◌+◌, ◌-◌, take, drop, vec_items, sym, ap, arith}
 use Rattle.std.proofs.lemmas.List.{get_or_past}
 use Rattle.parts.specs.Running.{first_row_of}
 use Rattle.series.specs.Tables.{tables}
 use Rattle.series.proofs.Tabled.{counted, bounded}
 use Rattle.series.proofs.table.Table.part.Goals as goal
 
-pub slice-bounds-result-count : goal.slice-bounds-result-count
-slice-bounds-result-count c =
+pub slice_bounds-result-count : goal.slice_bounds-result-count
+slice_bounds-result-count c =
     let t = c.args.self.now in
-    omega (arith, c.first-row.ensures, c.first-row-then-j-count.ensures, (bounded t c.args.j (omega (arith, c.if-j-count.true, c.count.ensures, counted t))).0)
+    omega (arith, c.first_row.ensures, c.first_row-then-j-count.ensures, (bounded t c.args.j (omega (arith, c.if-j-count.true, c.count.ensures, counted t))).0)
 
-pub slice-bounds-result-start : goal.slice-bounds-result-start
-slice-bounds-result-start c =
+pub slice_bounds-result-start : goal.slice_bounds-result-start
+slice_bounds-result-start c =
     let t = c.args.self.now in
-    omega (arith, c.first-row.ensures, c.first-row-then-j-count.ensures, (bounded t c.args.j (omega (arith, c.if-j-count.true, c.count.ensures, counted t))).0)
+    omega (arith, c.first_row.ensures, c.first_row-then-j-count.ensures, (bounded t c.args.j (omega (arith, c.if-j-count.true, c.count.ensures, counted t))).0)
 
-pub slice-bounds-result-end : goal.slice-bounds-result-end
-slice-bounds-result-end c =
+pub slice_bounds-result-end : goal.slice_bounds-result-end
+slice_bounds-result-end c =
     let t = c.args.self.now in
-    omega (arith, c.first-row-then-j-count.ensures, c.deref.ensures.len, (bounded t c.args.j (omega (arith, c.if-j-count.true, c.count.ensures, counted t))).1)
+    omega (arith, c.first_row-then-j-count.ensures, c.deref.ensures.len, (bounded t c.args.j (omega (arith, c.if-j-count.true, c.count.ensures, counted t))).1)
 
 pub returns-else-j-count : goal.returns-else-j-count
 returns-else-j-count c =

@@ -7,5 +7,5 @@ use Rattle.series.proofs.table.Table.part_of.Goals as goal
 pub returns : goal.returns
 returns c l =
     let t = c.args.self.now in
-    subst (λ (bs : List ℕ). (e : ℕ) → Rising bs e → c.args.k < e → Seated bs c.args.k c.find-part.result) c.deref.ensures.value c.find-part.ensures
+    subst (λ (bs : List ℕ). (e : ℕ) → Rising bs e → c.args.k < e → Seated bs c.args.k c.find_part.result) c.deref.ensures.value c.find_part.ensures
     (length (vec_items t.rows)) (rising t) l

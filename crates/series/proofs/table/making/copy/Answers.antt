@@ -5,9 +5,9 @@ use Rattle.series.proofs.table.making.copy.Goals as goal
 pub loop-x-preserved : goal.loop-x-preserved
 loop-x-preserved g c =
     let x = c.x-item.result in (
-      omega (arith, c.loop-x.invariant.0, c.push-reserved.ensures.len),
-      c.push-reserved.ensures.capacity ∙ c.loop-x.invariant.1,
-      c.push-reserved.ensures.items ∙ ap (λ xs. xs ++ x ∷ []) c.loop-x.invariant.2
+      omega (arith, c.loop-x.invariant.0, c.push_reserved.ensures.len),
+      c.push_reserved.ensures.capacity ∙ c.loop-x.invariant.1,
+      c.push_reserved.ensures.items ∙ ap (λ xs. xs ++ x ∷ []) c.loop-x.invariant.2
           ∙ ap (λ y. take c.loop-x.x-index c.args.items.now ++ y ∷ []) c.x-item.is
           ∙ sym (take_more c.args.items.now c.loop-x.x-index x c.loop-x-test.true),
     )
