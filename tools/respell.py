@@ -1,11 +1,15 @@
 #!/usr/bin/env python3
 """respell: brings the names of this repository's own definitions and lemmas to the spelling of the toolchain's library.
 
-  respell.py [--list]        at the top of the repository; --list prints the names and changes nothing
+  respell.py [--list | --anyway]     at the top of the repository
 
 Words are in snake case: a name in camel case, as `firstRow`, and a dash between plain words, as `first-here`, get an underscore. A dash
-stays between two functions that the lemma is about, as in `sum-add`. It goes by the files in crates/*/specs, proofs, src and must-fail, and
-leaves alone what other libraries define, what the check makes (goals, steps, places), and names of src/.
+stays between two functions that the lemma is about, as in `sum-append`. It goes by the names that the files in crates/*/specs and proofs
+define, and writes them anew wherever they stand as words in specs/, proofs/, src/ and must-fail/; names of other libraries stay. Names of
+functions in src/ stay too, as nothing in specs/ or proofs/ defines them. A name that the check makes and that is spelled like one of ours
+(as `point-is`, which is also what it calls the value of `point` at a join) has to be put back by hand.
+
+Where two names would fall together it says so and writes nothing; --anyway writes them all the same. --list prints the names alone.
 """
 import glob, re, sys
 
@@ -13,9 +17,11 @@ CAMEL = r"(?<![\w'-])([a-z][a-z0-9]*(?:[A-Z][a-z0-9]*)+ℤ?)(?![\w'-])"
 DASHED = r"[A-Za-z][\w'₀-₉ℤ]*(?:-[\w'₀-₉ℤ]+)+"
 EDGE = r"(?<![\w'ₐ-ₜ₀-₉ℤ-])%s(?![\w'ₐ-ₜ₀-₉ℤ-])"
 # snake case would give these the name of a function of src/, or of a lemma
-INSTEAD = {"firstRow": "first_row_of", "hasPart": "has_present", "passedUp": "refusal_passed_up", "falls_at": "falls_next", "falls-at": "falls_next"}
-# words for the operators, where a lemma is about them
-OPERATORS = {"add": "◌+◌| + ", "append": r"◌\+\+◌| \+\+ "}
+INSTEAD = {"firstRow": "first_row_of", "hasPart": "has_present", "passedUp": "refusal_passed_up"}
+# a lemma that makes room for a definition in camel case
+ROOM = {"fallsAt": ("falls_at", "falls_next")}
+# the words for operators that a lemma may be about
+OPERATORS = {"append": r"◌\+\+◌| \+\+ "}
 
 
 def files(pattern):
@@ -76,17 +82,18 @@ def main():
         for n in re.findall(CAMEL, t):
             if n not in skip:
                 names[n] = re.sub(r"[A-Z]", lambda m: "_" + m.group(0).lower(), n)
-    for n in INSTEAD:
-        if any(re.search(EDGE % re.escape(n), t) for t in antt.values()):
-            names[n] = INSTEAD[n]
+    stands = lambda n: any(re.search(EDGE % re.escape(n), t) for t in antt.values())
+    names |= {n: s for n, s in INSTEAD.items() if stands(n)} | {n: s for camel, (n, s) in ROOM.items() if stands(camel)}
     names = {n: s for n, s in names.items() if n != s}
     taken = set(re.findall(r"[A-Za-z][\w'₀-₉ℤ]*(?:-[\w'₀-₉ℤ]+)*", " ".join(antt.values())))
+    together = [n for n, s in names.items() if s in taken - set(names) or sum(x == s for x in names.values()) > 1]
     for n, s in sorted(names.items()):
-        note = "  FALLS TOGETHER" if s in taken or sum(x == s for x in names.values()) > 1 else ""
-        if "--list" in sys.argv or note:
-            print(f"{n} {s}{note}")
-    if "--list" in sys.argv:
+        if "--list" in sys.argv or n in together:
+            print(f"{n} {s}{'  FALLS TOGETHER' if n in together else ''}")
+    if "--list" in sys.argv or not names:
         return
+    if together and "--anyway" not in sys.argv:
+        sys.exit("respell: nothing was written")
     pattern = re.compile(EDGE % ("(?:" + "|".join(re.escape(n) for n in sorted(names, key=len, reverse=True)) + ")"))
     for f, t in {**antt, **others}.items():
         said = pattern.sub(lambda m: names[m.group(0)], t)

@@ -1,4 +1,6 @@
 //! Worked cases of the designs and the throws, run as tests.
+#![tactic(auto)]
+
 mod refusals;
 mod throwing;
 

@@ -1,4 +1,6 @@
 //! Draws samples of a county's farms by each design, and prints the list, each farm's share, the throws, and the farms taken.
+#![tactic(auto)]
+
 mod county;
 
 use county::{FARMS, rows};

@@ -1,4 +1,6 @@
 //! Walks every road of throws through small lists by each design, and prints the units that each road takes.
+#![tactic(auto)]
+
 use design::design::Design;
 use design::row::Row;
 use pivotal::Pivotal;
