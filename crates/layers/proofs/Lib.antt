@@ -1,3 +1,5 @@
 pub mod Rows
+pub mod Standings
 pub mod StratifiedPlans
 pub mod TwoStagePlans
+pub mod Stages

@@ -1,4 +1,4 @@
-ghost use Rattle.std.specs.Prelude.{◌≡◌, ◌+◌, ◌<◌, ◌≤◌, length, replicate, vec_len, vec_capacity};
+ghost use Rattle.std.specs.Prelude.{◌≡◌, ◌+◌, ◌<◌, ◌≤◌, [], length, replicate, IfOk, vec_len, vec_capacity};
 ghost use Rattle.design.specs.Faults.{Answers};
 ghost use Rattle.parts.specs.Parts.{bounds as bounds_of};
 ghost use Rattle.series.specs.Kinds.{alike, cut_refusal};
@@ -58,7 +58,9 @@ fn note_bounds(kind: PartKind, list: &[Row], bounds: &mut Vec<u32>)
 
 impl Table {
     /// Room for every list that a design accepts, so that no later call needs memory.
-    pub fn new(heap: Global) -> Result<Self, AllocError> {
+    pub fn new(heap: Global) -> Result<Self, AllocError>
+        ensures { IfOk result (λ t. (tables t).rows ≡ []) }
+    {
         let rows = Vec::with_capacity(heap, MOST_ROWS)?;
         let nums = Vec::with_capacity(heap, MOST_ROWS)?;
         let dens = Vec::with_capacity(heap, MOST_ROWS)?;

@@ -1,0 +1,67 @@
+-- Two-stage drawing under way: what stands while the first design runs, and what stands once the second does.
+use Rattle.std.specs.Prelude.{◌≡◌, ℕ, ◌*◌, ◌^◌, ◌<◌, ◌≤◌, length}
+use Rattle.outcomes.specs.Trees.{Tree, Sample, Lawful}
+use Rattle.design.specs.Design.{Plan, refuses, accepts, Run, Standing, no_run, in_run, ways_of}
+use Rattle.parts.specs.Parts.{place_of}
+use Rattle.parts.specs.Series.{Plans, denominators}
+use Rattle.parts.specs.Running.{Tables, all_parts, Loaded, Intact}
+use Rattle.layers.specs.TwoStage.{stages}
+
+-- the units of the run that stands, and the denominator of one
+abbrev pub units_of : Standing → ℕ
+units_of no_run = 0
+units_of (in_run r) = r.units
+
+abbrev pub denominator_at : Standing → ℕ → ℕ
+denominator_at no_run j = 0
+denominator_at (in_run r) j = r.denominator j
+
+-- the run that stands is the one that the plan begins
+abbrev pub Begins : Plan → Standing → Type 0
+Begins (refuses f) st = ⊥
+Begins (accepts num run) st = st ≡ in_run run
+
+-- a run of both stages, where r is the run of the first design, and t the present tree
+abbrev pub stages_over : Plans → Tables → Run → Tree Sample → Run
+stages_over B v r t = record {
+  tree = t;
+  units = length v.rows;
+  denominator = λ k. r.denominator (place_of 0 (all_parts v) k) * denominators B (all_parts v) k;
+}
+
+-- while the first design runs, and has the standing st: its tree, then the second design on each cluster that it takes
+abbrev pub in_first : Plans → Tables → Standing → Standing
+in_first B v no_run = no_run
+in_first B v (in_run r) = in_run (stages_over B v r (stages B (all_parts v) r.tree))
+
+-- once the first design has finished, and the series of the second on the taken clusters has the standing su
+abbrev pub in_second : Plans → Tables → Standing → Standing → Standing
+in_second B v no_run su = no_run
+in_second B v (in_run r) no_run = no_run
+in_second B v (in_run r) (in_run s) = in_run (stages_over B v r s.tree)
+
+-- the first design's run r is one on the clusters, and no product of denominators is too large
+pub record Fitting (B : Plans) (v : Tables) (r : Run) : Type 0 where
+  pub units_are : r.units ≡ length (all_parts v)
+  pub lawful : Lawful (length (all_parts v)) r.tree
+  pub small : (k : ℕ) → k < length v.rows → r.denominator (place_of 0 (all_parts v) k) * denominators B (all_parts v) k ≤ 10 ^ 15
+
+abbrev pub Fits : Plans → Tables → Standing → Type 0
+Fits B v no_run = ⊥
+Fits B v (in_run r) = Fitting B v r
+
+-- the first design runs, and may have finished; I says that it is intact
+pub record FirstUnderway (I : Type 0) (B : Plans) (v : Tables) (st : Standing) : Type 0 where
+  pub intact : I
+  pub loaded : Loaded B v
+  pub fits : Fits B v st
+
+-- the first design runs, and has ways
+pub record InFirst (I : Type 0) (B : Plans) (v : Tables) (st : Standing) : Type 0 where
+  pub underway : FirstUnderway I B v st
+  pub has_ways : 0 < ways_of st
+
+-- the first design has finished, and the second runs on the taken clusters; J says that the second is intact
+pub record InSecond (I J : Type 0) (B : Plans) (v : Tables) (st su : Standing) : Type 0 where
+  pub underway : FirstUnderway I B v st
+  pub series : Intact J B v su

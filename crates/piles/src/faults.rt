@@ -1,0 +1,79 @@
+#[cfg(test)]
+mod tests {
+    use crate::row;
+    use design::design::Design;
+    use design::fault::{Fault, Reason};
+    use pivotal::Pivotal;
+    use std::test::Fail;
+    use stratified::Stratified;
+    use systematic::Systematic;
+    use two_stage::TwoStage;
+
+    // A fault that two layers have passed upward.
+    fn passed_twice(reason: Reason, row: u32) -> Result<(), Fault> {
+        Err(Fault {
+            reason,
+            row,
+            depth: 2,
+        })
+    }
+
+    #[test]
+    fn through_strata_and_stages(rt: HostRuntime) -> Result<(), Fail> {
+        let first = Pivotal::new(rt.alloc())?;
+        let stages = TwoStage::new(rt.alloc(), first, Systematic::new(rt.alloc())?)?;
+        let mut pile = Stratified::new(rt.alloc(), stages)?;
+        let whole = [
+            row(1, 0, 1),
+            row(2, 0, 1),
+            row(2, 0, 1),
+            row(2, 5, 1),
+            row(2, 5, 9),
+        ];
+        assert_eq!(rt; pile.begin(&whole, 2), Err(Fault::of(Reason::NothingSet)));
+        assert_eq!(rt; pile.allot(&[1, 2]), Ok(()));
+        let unset = pile.begin(&whole, 3);
+        assert_eq!(rt; unset, Err(Fault::of(Reason::NothingSet).passed_up(0)));
+        Ok(())
+    }
+
+    #[test]
+    fn of_both_stages(rt: HostRuntime) -> Result<(), Fail> {
+        let mut stages = TwoStage::new(
+            rt.alloc(),
+            Pivotal::new(rt.alloc())?,
+            Systematic::new(rt.alloc())?,
+        )?;
+        assert_eq!(rt; stages.within(2), Ok(()));
+        let mut pile = Stratified::new(rt.alloc(), stages)?;
+        assert_eq!(rt; pile.allot(&[2, 4]), Ok(()));
+        let first = [
+            row(1, 0, 1),
+            row(1, 0, 1),
+            row(2, 0, 1),
+            row(2, 0, 1),
+            row(2, 5, 9),
+        ];
+        assert_eq!(rt;
+            pile.begin(&first, 6),
+            passed_twice(Reason::ShareAboveOne, 4)
+        );
+        let second = [
+            row(1, 0, 1),
+            row(1, 0, 1),
+            row(2, 0, 5),
+            row(2, 0, 5),
+            row(2, 5, 1),
+            row(2, 5, 9),
+        ];
+        assert_eq!(rt;
+            pile.begin(&second, 6),
+            passed_twice(Reason::ShareAboveOne, 5)
+        );
+        assert_eq!(rt;
+            pile.begin(&[row(2, 0, 1), row(1, 0, 1)], 6),
+            Err(Fault::at(Reason::OutOfOrder, 1))
+        );
+        Ok(())
+    }
+}

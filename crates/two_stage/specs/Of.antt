@@ -1,0 +1,97 @@
+-- What the fields of two-stage drawing stand for.
+use Rattle.std.specs.Prelude.{◌≡◌, ℕ, ◌-◌, ◌/◌, ◌≤◌, List, [], ◌∷◌, map, length, replicate, Option}
+use Rattle.design.specs.Faults.{Refusal, first_of}
+use Rattle.design.specs.Lists.{total}
+use Rattle.design.specs.Design.{Plan, Standing, no_run, in_run}
+use Rattle.design.specs.declared.design.Design as Design
+use Rattle.design.specs.declared.row.Row.{Row}
+use Rattle.parts.specs.Parts.{bounds, same_cluster}
+use Rattle.parts.specs.Series.{Plans, part_refusal}
+use Rattle.parts.specs.Running.{Tables, all_parts, standing_of}
+use Rattle.layers.specs.TwoStage.{cluster_row, first_refusal, product_refusal, stages_run}
+use Rattle.layers.specs.Stages.{in_first, in_second, FirstUnderway, InFirst, InSecond}
+use Rattle.series.specs.Of.{tables_of}
+use Rattle.series.specs.Tables.{newly_cut, asked}
+use Rattle.two_stage.specs.declared.TwoStage.{TwoStage}
+use Rattle.two_stage.specs.declared.Stage.{Stage}
+use Rattle.two_stage.specs.declared.Stage.TheVariants.{Waiting, First, Second}
+
+-- the run that stands, by the stage
+abbrev pub stands_in : Stage → Plans → Tables → Standing → Standing → Standing
+stands_in Waiting B v st su = no_run
+stands_in First B v st su = in_first B v st
+stands_in Second B v st su = in_second B v st (standing_of B v su)
+
+-- the parts of the state belong together, by the stage; I and J say that the first and the second design are intact
+abbrev pub WholeIn : Stage → Type 0 → Type 0 → Plans → Tables → Standing → Standing → Type 0
+WholeIn Waiting I J B v st su = Unit {0}
+WholeIn First I J B v st su = InFirst I B v st
+WholeIn Second I J B v st su = InSecond I J B v st su
+
+-- the same of a layer, over the meanings G of the first design and H of the second
+abbrev pub stands : {A B : Type 0} → Design.Ghosts A → Design.Ghosts B → TwoStage A B → Standing
+stands G H s = stands_in s.stage (H.plan s.second.below) (tables_of s.second) (G.tree s.first) (H.tree s.second.below)
+
+abbrev pub IsWhole : {A B : Type 0} → Design.Ghosts A → Design.Ghosts B → TwoStage A B → Type 0
+IsWhole G H s = WholeIn s.stage (G.intact s.first) (H.intact s.second.below) (H.plan s.second.below) (tables_of s.second) (G.tree s.first) (H.tree s.second.below)
+
+-- the first design runs, and may have finished
+abbrev pub IsDrawing : {A B : Type 0} → Design.Ghosts A → Design.Ghosts B → TwoStage A B → Type 0
+IsDrawing G H s = FirstUnderway (G.intact s.first) (H.plan s.second.below) (tables_of s.second) (G.tree s.first)
+
+-- what stands while the first design runs
+abbrev pub drawing : {A B : Type 0} → Design.Ghosts A → Design.Ghosts B → TwoStage A B → Standing
+drawing G H s = in_first (H.plan s.second.below) (tables_of s.second) (G.tree s.first)
+
+-- both designs, with no number set and no run
+pub record IsNew {A B : Type 0} (first : A) (second : B) (s : TwoStage A B) : Type 0 where
+  pub over : s.first ≡ first
+  pub within_over : s.second.below ≡ second
+  pub no_number : s.within ≡ 0
+  pub no_run : s.stage ≡ Waiting
+
+-- the number is set, and no run stands; nothing else is changed
+pub record SetWithin {A B : Type 0} (m : ℕ) (old new : TwoStage A B) : Type 0 where
+  pub number : new.within ≡ m
+  pub ended : new.stage ≡ Waiting
+  pub first : new.first ≡ old.first
+  pub second : new.second ≡ old.second
+
+-- the tables of a list newly cut into clusters, each with the sample size m
+abbrev pub cut_clusters : ℕ → List Row → Tables
+cut_clusters m list = asked (newly_cut same_cluster list) (replicate (length (bounds same_cluster list) - 1) m)
+
+-- a list was cut into clusters of m units each, of which q are drawn
+pub record CutInto {A B : Type 0} (m q : ℕ) (list : List Row) (n : ℕ) (s : TwoStage A B) : Type 0 where
+  pub clusters : tables_of s.second ≡ cut_clusters m list
+  pub draws : q ≡ n / m
+  pub few : length (all_parts (tables_of s.second)) ≤ 128
+  pub small : total (tables_of s.second).rows ≤ 10240000
+
+-- both designs, the number and the run stay
+pub record SameLayer {A B : Type 0} (old new : TwoStage A B) : Type 0 where
+  pub first : new.first ≡ old.first
+  pub second : new.second.below ≡ old.second.below
+  pub number : new.within ≡ old.within
+  pub stage : new.stage ≡ old.stage
+
+-- ---- what follows the cut
+-- what the first design does with the rows of the clusters, of which q are drawn
+abbrev pub first_does : {A B : Type 0} → Design.Ghosts A → TwoStage A B → ℕ → Plan
+first_does G s q = G.plan s.first (map cluster_row (all_parts (tables_of s.second))) q
+
+-- the refusals that are left: of the first design, which does a; of the second, on each cluster; of the products
+abbrev pub opening_refusal : Plan → Plans → Tables → Option Refusal
+opening_refusal a B v = first_of (first_refusal v.bounds a ∷ part_refusal B (all_parts v) ∷ product_refusal a B (all_parts v) (length v.rows) ∷ [])
+
+-- the first design has begun as the plan a says, and the second accepts every cluster
+pub record Opened {A B : Type 0} (G : Design.Ghosts A) (H : Design.Ghosts B) (a : Plan) (old new : TwoStage A B) : Type 0 where
+  pub underway : IsDrawing G H new
+  pub run : drawing G H new ≡ in_run (stages_run a (H.plan old.second.below) (all_parts (tables_of old.second)) (length (tables_of old.second).rows))
+
+-- what the settings fix stays, and so does the stage
+pub record SameSettings {A B : Type 0} (G : Design.Ghosts A) (H : Design.Ghosts B) (old new : TwoStage A B) : Type 0 where
+  pub first : G.plan new.first ≡ G.plan old.first
+  pub second : H.plan new.second.below ≡ H.plan old.second.below
+  pub number : new.within ≡ old.within
+  pub stage : new.stage ≡ old.stage

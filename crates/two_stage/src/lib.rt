@@ -1,0 +1,204 @@
+//! Two-stage drawing over any two designs, as code.
+#![tactic(auto)]
+
+ghost use Rattle.std.specs.Prelude.{◌≡◌, ◌*◌, ◌^◌, ◌<◌, ◌≤◌, length, IfOk, OnErr};
+ghost use Rattle.design.specs.Faults.{Answers};
+ghost use Rattle.design.specs.Lists.{total};
+ghost use Rattle.layers.specs.TwoStage.{within_refusal, clusters_refusal, two_stage_plan};
+ghost use Rattle.layers.proofs.TwoStagePlans.{two_stage_sound};
+ghost use Rattle.parts.specs.Running.{Moved, all_parts};
+ghost use Rattle.series.specs.Of.{plans, tables_of};
+ghost use Rattle.two_stage.specs.Exact.{exact_stages};
+ghost use Rattle.two_stage.specs.Of.{stands, IsWhole, IsDrawing, drawing, IsNew, SetWithin, CutInto, SameLayer, first_does, opening_refusal, Opened, SameSettings};
+
+use design::check::check_list;
+use design::design::Design;
+use design::fault::{Fault, Reason};
+use design::row::Row;
+use first::{begin_first, check_products};
+use heads::{Heads, MOST_CLUSTERS};
+use series::Series;
+use series::kind::PartKind;
+use std::alloc::{AllocError, Global};
+
+pub mod first;
+pub mod heads;
+
+/// The largest number that may be taken of each cluster.
+pub const MOST_WITHIN: u32 = 1024;
+
+/// What a run of both stages has come to.
+#[derive(Clone, Copy)]
+pub enum Stage {
+    /// No run stands.
+    Waiting,
+    /// The first design runs on the clusters.
+    First,
+    /// The second design runs on the taken clusters in turn.
+    Second,
+}
+
+/// Two-stage drawing: the first design runs on the clusters of a list, and the second on each taken cluster in order.
+#[derive(Drop)]
+pub struct TwoStage<A: Design, B: Design> {
+    first: A,
+    second: Series<B>,
+    heads: Heads,
+    within: u32,
+    stage: Stage,
+}
+
+// a times b, where 64 bits hold it.
+fn times(a: u64, b: u64) -> u64
+    ensures { a * b < 2 ^ 64 → result ≡ a * b }
+{
+    a.wrapping_mul(b)
+}
+
+impl<A: Design, B: Design> TwoStage<A, B> {
+    /// Two-stage drawing over these designs, with no number set, and room for every list that is accepted.
+    pub fn new(heap: Global, first: A, second: B) -> Result<Self, AllocError>
+    where
+        A: Drop,
+        B: Drop,
+        ensures { IfOk result (IsNew first second) }
+    {
+        let heads = Heads::new(heap)?;
+        let second = Series::new(heap, second)?;
+        Ok(TwoStage {
+            first,
+            second,
+            heads,
+            within: 0,
+            stage: Stage::Waiting,
+        })
+    }
+
+    /// Sets how many units are taken of each cluster that is drawn, which ends the run; refused, nothing changes.
+    pub fn within(&mut self, m: u32) -> Result<(), Fault>
+        ensures answers { Answers (within_refusal m) (λ _. SetWithin m self.old self.new) result }
+        ensures refused { OnErr result (self.new ≡ self.old) }
+    {
+        if m == 0 || m > MOST_WITHIN {
+            return Err(Fault::of(Reason::WithinOutOfRange));
+        }
+        self.within = m;
+        self.stage = Stage::Waiting;
+        Ok(())
+    }
+
+    // Cuts a list into clusters, and answers how many of them are to be drawn.
+    fn cut(&mut self, list: &[Row], n: u32) -> Result<u32, Fault>
+        ensures answers { Answers (clusters_refusal self.old.within list.now n) (λ q. CutInto self.old.within q list.now n self.new) result }
+        ensures same { SameLayer self.old self.new }
+    {
+        let m = self.within;
+        if m == 0 {
+            return Err(Fault::of(Reason::NothingSet));
+        }
+        check_list(list, n)?;
+        self.second.table.cut(PartKind::Cluster, list)?;
+        if n % m != 0 {
+            return Err(Fault::of(Reason::SampleNotMultiple));
+        }
+        if self.second.table.count() > MOST_CLUSTERS {
+            let row = self.second.table.first_row(MOST_CLUSTERS);
+            return Err(Fault::at(Reason::TooManyClusters, row));
+        }
+        self.second.table.ask_each(m);
+        Ok(n / m)
+    }
+
+    // Begins the first design on the clusters, tries the second on each of them, and looks for a denominator that is too large.
+    fn open(&mut self, draws: u32) -> Result<(), Fault>
+        requires few { length (all_parts (tables_of self.old.second)) ≤ 128 }
+        requires small { total (tables_of self.old.second).rows ≤ 10240000 }
+        ensures answers { Answers (opening_refusal (first_does A.Design self.old draws) (plans B.Design self.old.second) (tables_of self.old.second)) (λ _. Opened A.Design B.Design (first_does A.Design self.old draws) self.old self.new) result }
+        ensures same { SameSettings A.Design B.Design self.old self.new }
+    {
+        self.heads.fill(&self.second.table);
+        begin_first(
+            &mut self.first,
+            self.heads.as_slice(),
+            &self.second.table,
+            draws,
+        )?;
+        self.second.try_parts()?;
+        check_products(&self.first, &self.second.table)
+    }
+
+    // Once the first design has come to its outcome, the second starts on the clusters that it holds.
+    fn settle(&mut self) -> Result<(), Fault>
+        requires { self.old.stage ≡ Stage.First }
+        ensures settled { IsDrawing A.Design B.Design self.old → Moved result (IsWhole A.Design B.Design self.new) (stands A.Design B.Design self.new) (drawing A.Design B.Design self.old) }
+        ensures first { self.new.first ≡ self.old.first }
+        ensures second { B.plan self.new.second.below ≡ B.plan self.old.second.below }
+        ensures number { self.new.within ≡ self.old.within }
+    {
+        if self.first.ways() == 0 {
+            self.second.choose(&self.first);
+            self.second.start()?;
+            self.stage = Stage::Second;
+        }
+        Ok(())
+    }
+}
+
+impl<A: Design, B: Design> Design for TwoStage<A, B> {
+    ghost plan = { λ s. two_stage_plan s.within (A.plan s.first) (B.plan s.second.below) };
+
+    ghost tree = { λ s. stands A.Design B.Design s };
+
+    ghost intact = { λ s. IsWhole A.Design B.Design s };
+
+    ghost sound = { λ s. two_stage_sound (A.plan s.first) (B.plan s.second.below) (A.sound s.first) (B.sound s.second.below) s.within };
+
+    ghost exact = { λ s h. exact_stages s.stage (A.intact s.first) (B.intact s.second.below) (B.plan s.second.below) (B.sound s.second.below) (tables_of s.second) (A.tree s.first) (B.tree s.second.below) h (A.exact s.first) (B.exact s.second.below) };
+
+    fn begin(&mut self, list: &[Row], n: u32) -> Result<(), Fault> {
+        self.stage = Stage::Waiting;
+        let draws = self.cut(list, n)?;
+        self.open(draws)?;
+        self.stage = Stage::First;
+        self.settle()
+    }
+
+    fn ways(&self) -> u32 {
+        match self.stage {
+            Stage::Waiting => 0,
+            Stage::First => self.first.ways(),
+            Stage::Second => self.second.ways(),
+        }
+    }
+
+    fn step(&mut self, d: u32) -> Result<(), Fault> {
+        match self.stage {
+            Stage::Waiting => Err(Fault::of(Reason::NoWays)),
+            Stage::First => {
+                self.first.step(d)?;
+                self.settle()
+            }
+            Stage::Second => self.second.step(d),
+        }
+    }
+
+    fn share(&self, k: u32) -> Result<(u64, u64), Fault> {
+        if k as usize >= self.second.table.units() {
+            return Err(Fault::of(Reason::NoSuchUnit));
+        }
+        let j = self.second.table.part_of(k);
+        match self.stage {
+            Stage::Waiting => Err(Fault::of(Reason::NoSuchUnit)),
+            Stage::First => {
+                let (num, den) = self.first.share(j as u32)?;
+                let (part, whole) = self.second.table.prescribed(k as usize);
+                Ok((times(num, part), times(den, whole)))
+            }
+            Stage::Second => {
+                let (_, den) = self.first.share(j as u32)?;
+                let (part, whole) = self.second.share(k)?;
+                Ok((times(den, part), times(den, whole)))
+            }
+        }
+    }
+}
