@@ -1,4 +1,4 @@
-ghost use Rattle.std.specs.Prelude.{◌≡◌, ◌+◌, ◌<◌, ◌≤◌, [], length, replicate, IfOk, vec_len, vec_capacity};
+ghost use Rattle.std.specs.Prelude.{◌≡◌, ◌+◌, ◌<◌, ◌≤◌, [], length, replicate, IfOk, OnErr, vec_len, vec_capacity};
 ghost use Rattle.design.specs.Faults.{Answers};
 ghost use Rattle.parts.specs.Parts.{bounds as bounds_of};
 ghost use Rattle.series.specs.Kinds.{alike, cut_refusal};
@@ -98,9 +98,11 @@ impl Table {
         self.stage = 0;
     }
 
-    /// Refuses an empty list, one of too many rows, and the first row that falls; else cuts the list into parts, of which all are chosen.
+    /// Refuses an empty list, one of too many rows, and the first row that falls, and then changes nothing; else cuts the list into
+    /// parts, of which all are chosen.
     pub fn cut(&mut self, kind: PartKind, list: &[Row]) -> Result<(), Fault>
-        ensures { Answers (cut_refusal kind list.now) (λ _. tables self.new ≡ newly_cut (alike kind) list.now) result }
+        ensures answers { Answers (cut_refusal kind list.now) (λ _. tables self.new ≡ newly_cut (alike kind) list.now) result }
+        ensures refused { OnErr result (self.new ≡ self.old) }
     {
         check_count(list)?;
         kind.check_order(list)?;

@@ -15,7 +15,7 @@ pub returns-then-not-ask-clause-answers : goal.returns-then-not-ask-clause-answe
 returns-then-not-ask-clause-answers g c =
     let takes = takes_of c.args.self.now in
     let list = c.args.list.now in
-    let cuts = accepted _ _ c.in_ok-cut.field-0 c.in_ok-cut.ensures in
+    let cuts = accepted _ _ c.in_ok-cut.field-0 c.in_ok-cut.ensures.answers in
     let as_many : eqb (length (strata takes list)) (length takes) ≡ false =
     ap₂ eqb (sym (counted_strata takes list (tables c.cut.new.self) cuts.1)) (sym (ap length c.as_slice.ensures)) ∙ sym c.ask.ensures.fits ∙ c.if-not-ask.true in
     answers_as (strata_refusal takes list c.args.n) (refusal 12) _ c.of-then-not-ask.result
@@ -25,7 +25,7 @@ pub returns-then-total-n-clause-answers : goal.returns-then-total-n-clause-answe
 returns-then-total-n-clause-answers g c =
     let takes = takes_of c.args.self.now in
     let list = c.args.list.now in
-    let cuts = accepted _ _ c.in_ok-cut.field-0 c.in_ok-cut.ensures in
+    let cuts = accepted _ _ c.in_ok-cut.field-0 c.in_ok-cut.ensures.answers in
     let as_many : eqb (length (strata takes list)) (length takes) ≡ true =
     ap₂ eqb (sym (counted_strata takes list (tables c.cut.new.self) cuts.1)) (sym (ap length c.as_slice.ensures)) ∙ sym c.ask.ensures.fits ∙ c.if-not-ask.false in
     answers_as (strata_refusal takes list c.args.n) (refusal 13) _ c.of-then-total-n.result
@@ -36,7 +36,7 @@ pub returns-clause-answers : goal.returns-clause-answers
 returns-clause-answers g c =
     let takes = takes_of c.args.self.now in
     let list = c.args.list.now in
-    let cuts = accepted _ _ c.in_ok-cut.field-0 c.in_ok-cut.ensures in
+    let cuts = accepted _ _ c.in_ok-cut.field-0 c.in_ok-cut.ensures.answers in
     let as_many : eqb (length (strata takes list)) (length takes) ≡ true =
     ap₂ eqb (sym (counted_strata takes list (tables c.cut.new.self) cuts.1)) (sym (ap length c.as_slice.ensures)) ∙ sym c.ask.ensures.fits ∙ c.if-not-ask.false in
     let v = tables c.cut.new.self in

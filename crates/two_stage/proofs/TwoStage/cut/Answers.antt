@@ -20,7 +20,7 @@ returns-then-count-gt-MOST_CLUSTERS-clause-answers g c =
     let list = c.args.list.now in
     let v = tables c.cut.new.self in
     let lists = accepted (list_refusal list c.args.n) _ c.in_ok-check_list.field-0 c.in_ok-check_list.ensures in
-    let cuts = accepted _ _ c.in_ok-cut.field-0 c.in_ok-cut.ensures in
+    let cuts = accepted _ _ c.in_ok-cut.field-0 c.in_ok-cut.ensures.answers in
     let many : 129 < length (bounds same_cluster list) = omega (arith, c.if-count-gt-MOST_CLUSTERS.true, c.count.ensures, counted_clusters list v cuts.1) in
     answers_as (clusters_refusal m list c.args.n) (refusal_at 15 (get_or (bounds same_cluster list) 128 0)) _ c.at.result
     (crowded m list c.args.n (ne_eqb m 0 c.if-m-eq0.false) lists.0 cuts.0 (eq-eqb (c.args.n % m) 0 c.if-n-m-ne0.false) many)
@@ -32,7 +32,7 @@ returns-clause-answers g c =
     let list = c.args.list.now in
     let v = tables c.cut.new.self in
     let lists = accepted (list_refusal list c.args.n) _ c.in_ok-check_list.field-0 c.in_ok-check_list.ensures in
-    let cuts = accepted _ _ c.in_ok-cut.field-0 c.in_ok-cut.ensures in
+    let cuts = accepted _ _ c.in_ok-cut.field-0 c.in_ok-cut.ensures.answers in
     let count = counted_clusters list v cuts.1 in
     let few : length (bounds same_cluster list) ≤ 129 = omega (arith, c.if-count-gt-MOST_CLUSTERS.false, c.count.ensures, count) in
     let clusters = c.ask_each.ensures ∙ ap₂ (λ (w : Tables) (k : ℕ). asked w (replicate k m)) cuts.1 count in
