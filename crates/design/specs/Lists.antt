@@ -35,7 +35,7 @@ passes list k = nat_lt 10240000 (total_before list k + size_at list k)
 abbrev pub count_refusal : List Row → Option Refusal
 count_refusal list = first_of (refused_if (length list == 0) 1 ∷ refused_if (nat_lt 1024 (length list)) 2 ∷ [])
 
--- no sample; the first row of size 0; the row at which the total passes the limit
+-- the first row of size 0; the row at which the total passes the limit
 abbrev pub size_refusal : List Row → Option Refusal
 size_refusal list = refused_at (first (length list) (no_size list)) 4
 

@@ -44,8 +44,8 @@ within_refusal m = refused_if (m == 0 || nat_lt 1024 m) 9
 abbrev pub crowd_refusal : List ℕ → Option Refusal
 crowd_refusal firsts = refused_at (cond (nat_lt 129 (length firsts)) (Some (slice_index firsts 128)) None) 15
 
--- what begin refuses before it asks the designs below: no number set; a list or a sample size that no design with sizes takes; the first
--- row whose pair of stratum, then cluster, falls; n no multiple of m; too many clusters
+-- what begin refuses before it asks the designs below: no number set; a list or a sample size that any design with sizes refuses; the
+-- first row whose pair of stratum, then cluster, falls; n no multiple of m; too many clusters
 abbrev pub clusters_refusal : ℕ → List Row → ℕ → Option Refusal
 clusters_refusal m list n =
     first_of (refused_if (m == 0) 10

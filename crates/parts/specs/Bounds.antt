@@ -1,4 +1,4 @@
--- What the proofs say of parts and their bounds.
+-- Parts and their bounds, as contracts and proofs speak of them.
 use Rattle.std.specs.Prelude.{◌≡◌, ℕ, suc, ◌+◌, ◌-◌, ◌<◌, ◌≤◌, Bool, true, false, cond, List, [], ◌∷◌, length, drop, nat_le}
 use Rattle.outcomes.specs.Trees.{Sample}
 use Rattle.design.specs.Design.{Plan, refuses, accepts}

@@ -19,26 +19,26 @@ mod tests {
     }
 
     #[test]
-    fn through_strata_and_stages(rt: HostRuntime) -> Result<(), Fail> {
+    fn nothing_set(rt: HostRuntime) -> Result<(), Fail> {
         let first = Pivotal::new(rt.alloc())?;
         let stages = TwoStage::new(rt.alloc(), first, Systematic::new(rt.alloc())?)?;
         let mut pile = Stratified::new(rt.alloc(), stages)?;
-        let whole = [
+        let list = [
             row(1, 0, 1),
             row(2, 0, 1),
             row(2, 0, 1),
             row(2, 5, 1),
             row(2, 5, 9),
         ];
-        assert_eq!(rt; pile.begin(&whole, 2), Err(Fault::of(Reason::NothingSet)));
+        assert_eq!(rt; pile.begin(&list, 2), Err(Fault::of(Reason::NothingSet)));
         assert_eq!(rt; pile.allot(&[1, 2]), Ok(()));
-        let unset = pile.begin(&whole, 3);
+        let unset = pile.begin(&list, 3);
         assert_eq!(rt; unset, Err(Fault::of(Reason::NothingSet).passed_up(0)));
         Ok(())
     }
 
     #[test]
-    fn of_both_stages(rt: HostRuntime) -> Result<(), Fail> {
+    fn share_above_one_in_either_stage(rt: HostRuntime) -> Result<(), Fail> {
         let mut stages = TwoStage::new(
             rt.alloc(),
             Pivotal::new(rt.alloc())?,
@@ -70,9 +70,27 @@ mod tests {
             pile.begin(&second, 6),
             passed_twice(Reason::ShareAboveOne, 5)
         );
+        Ok(())
+    }
+
+    #[test]
+    fn of_the_outer_layer(rt: HostRuntime) -> Result<(), Fail> {
+        let mut layer = Stratified::new(rt.alloc(), Pivotal::new(rt.alloc())?)?;
+        assert_eq!(rt; layer.allot(&[1, 0]), Err(Fault::of(Reason::TakeZero)));
+        assert_eq!(rt; layer.allot(&[1, 1]), Ok(()));
+        let falling = [row(2, 0, 1), row(1, 0, 1)];
         assert_eq!(rt;
-            pile.begin(&[row(2, 0, 1), row(1, 0, 1)], 6),
+            layer.begin(&falling, 2),
             Err(Fault::at(Reason::OutOfOrder, 1))
+        );
+        let rising = [row(1, 0, 1), row(2, 0, 1)];
+        assert_eq!(rt;
+            layer.begin(&rising, 3),
+            Err(Fault::of(Reason::TakesNotSample))
+        );
+        assert_eq!(rt;
+            layer.begin(&rising[1..], 2),
+            Err(Fault::of(Reason::StrataNotTakes))
         );
         Ok(())
     }

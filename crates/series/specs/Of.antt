@@ -1,5 +1,5 @@
 -- What a series stands for, over the meaning G of the design below.
-use Rattle.std.specs.Prelude.{◌≡◌}
+use Rattle.std.specs.Prelude.{◌≡◌, []}
 use Rattle.design.specs.Design.{Standing}
 use Rattle.design.specs.declared.design.Design as Design
 use Rattle.parts.specs.Running.{Tables, standing_of, Loaded, Underway, Intact}
@@ -13,6 +13,11 @@ plans G s = G.plan s.below
 
 abbrev pub tables_of : {D : Type 0} → Series D → Tables
 tables_of s = tables s.table
+
+-- the design, with no list
+pub record IsNew {D : Type 0} (below : D) (s : Series D) : Type 0 where
+  pub over : s.below ≡ below
+  pub no_list : (tables_of s).rows ≡ []
 
 -- the run that stands
 abbrev pub standing : {D : Type 0} → Design.Ghosts D → Series D → Standing

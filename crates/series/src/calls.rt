@@ -1,6 +1,6 @@
 ghost use Rattle.std.specs.Prelude.{◌≡◌, ◌<◌, length, IfOk, vec_len};
 ghost use Rattle.design.specs.Design.{Shared, Stepped, ways_of};
-ghost use Rattle.series.specs.Of.{IsIntact, SameList, plans, standing, tables_of};
+ghost use Rattle.series.specs.Of.{IsIntact, IsNew, SameList, plans, standing, tables_of};
 ghost use Rattle.series.specs.Calls.{aside_share};
 
 use crate::Series;
@@ -14,7 +14,7 @@ impl<D: Design> Series<D> {
     pub fn new(heap: Global, below: D) -> Result<Self, AllocError>
     where
         D: Drop,
-        ensures { IfOk result (λ s. s.below ≡ below) }
+        ensures { IfOk result (IsNew below) }
     {
         let table = Table::new(heap)?;
         Ok(Series { below, table })

@@ -10,7 +10,8 @@ mod moving;
 pub mod table;
 mod trying;
 
-/// A design, and the list on whose chosen parts it runs in turn.
+/// A design, and the list on whose chosen parts it runs in turn. The promises of ways, step and share hold of a series that is intact,
+/// as `start` leaves it and `step` keeps it; whoever moves its fields apart loses them, so a layer keeps its series private.
 #[derive(Drop)]
 pub struct Series<D: Design> {
     pub below: D,

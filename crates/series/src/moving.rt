@@ -3,7 +3,7 @@ ghost use Rattle.parts.specs.Copying.{Over, outcome_of, written};
 ghost use Rattle.parts.specs.Running.{Moved, NextChosen, run_from, so_far};
 ghost use Rattle.parts.specs.Series.{nothing};
 ghost use Rattle.series.specs.Of.{IsIntact, IsLoaded, IsUnderway, SameList, plans, standing, tables_of};
-ghost use Rattle.series.specs.Moving.{CanEnter, Finished, Chosen};
+ghost use Rattle.series.specs.Moving.{CanEnter, Finished, Chosen, with_chosen};
 
 use crate::Series;
 use crate::table::making::fill;
@@ -92,16 +92,17 @@ impl<D: Design> Series<D> {
         Ok(())
     }
 
-    /// Chooses the parts that the finished run of `first` has taken.
+    /// Chooses the parts that the finished run of `first` has taken; only the choice changes.
     pub fn choose<A: Design>(&mut self, first: &A)
         ensures chosen { A.Design.intact first.now → Over (A.Design.tree first.now) (length (tables_of self.old).chosen) → Chosen (outcome_of (A.Design.tree first.now)) (tables_of self.old) (tables_of self.new) }
+        ensures same { tables_of self.new ≡ with_chosen (tables_of self.old) (tables_of self.new).chosen }
         ensures below { self.new.below ≡ self.old.below }
     {
         let count = self.table.chosen.len();
         note_taken(first, &mut self.table.chosen, 0, count);
     }
 
-    /// Starts a run on the chosen parts.
+    /// Starts a run on the chosen parts of a list that is loaded: one on which every part was tried and accepted.
     pub fn start(&mut self) -> Result<(), Fault>
         ensures same { SameList (tables_of self.old) (tables_of self.new) }
         ensures settings { plans D.Design self.new ≡ plans D.Design self.old }

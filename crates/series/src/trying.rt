@@ -83,7 +83,8 @@ impl<D: Design> Series<D> {
         Ok(())
     }
 
-    /// Tries the design on every part in order, and notes the prescribed shares, or passes the first fault upward.
+    /// Tries the design on every part in order, and notes the prescribed shares, or passes the first fault upward. Which run the
+    /// design then has is left open: `start` begins it anew.
     pub fn try_parts(&mut self) -> Result<(), Fault>
         ensures tried { Answers (part_refusal (plans D.Design self.old) (all_parts (tables_of self.old))) (λ _. Loaded (plans D.Design self.old) (tables_of self.new)) result }
         ensures same { tables_of self.new ≡ with_shares (tables_of self.old) (tables_of self.new).nums (tables_of self.new).dens }

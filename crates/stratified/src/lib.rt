@@ -19,7 +19,7 @@ use series::kind::PartKind;
 use std::alloc::{AllocError, Global};
 use takes::Takes;
 
-pub mod takes;
+mod takes;
 
 /// Stratification: the design below runs on each stratum of a list in order, with that stratum's take.
 #[derive(Drop)]

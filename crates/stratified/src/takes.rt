@@ -63,12 +63,14 @@ impl Takes {
         Ok(())
     }
 
+    /// Whether no takes are set.
     pub fn is_empty(&self) -> bool
         ensures { result ≡ (length self.now.items.items == 0) }
     {
         self.items.is_empty()
     }
 
+    /// The takes, in the order of the strata.
     pub fn as_slice(&self) -> &[u32]
         ensures { result.now ≡ self.now.items.items }
     {

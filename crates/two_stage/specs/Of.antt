@@ -56,6 +56,7 @@ pub record SetWithin {A B : Type 0} (m : ℕ) (old new : TwoStage A B) : Type 0 
   pub ended : new.stage ≡ Waiting
   pub first : new.first ≡ old.first
   pub second : new.second ≡ old.second
+  pub heads : new.heads ≡ old.heads
 
 -- the tables of a list newly cut into clusters, each with the sample size m
 abbrev pub cut_clusters : ℕ → List Row → Tables

@@ -75,6 +75,7 @@ impl Heads {
         note_rows(table, &mut self.rows);
     }
 
+    /// The rows, in the order of the clusters.
     pub fn as_slice(&self) -> &[Row]
         ensures { result.now ≡ self.now.rows.items }
     {

@@ -21,8 +21,8 @@ use series::Series;
 use series::kind::PartKind;
 use std::alloc::{AllocError, Global};
 
-pub mod first;
-pub mod heads;
+mod first;
+mod heads;
 
 /// The largest number that may be taken of each cluster.
 pub const MOST_WITHIN: u32 = 1024;

@@ -8,7 +8,7 @@ use super::Table;
 use super::making::{copy, fill};
 use design::row::Row;
 
-/// The part in which the row k lies, where `bounds` are the first rows of the parts, and at last the row past the list.
+// The part in which the row k lies, where `bounds` are the first rows of the parts, and at last the row past the list.
 fn find_part(bounds: &[u32], k: u32) -> usize
     ensures { (e : ℕ) → Rising bounds.now e → k < e → Seated bounds.now k result }
 {
@@ -67,7 +67,7 @@ impl Table {
         }
     }
 
-    /// The part of the unit k.
+    /// The part of the unit k, and an open answer past the last unit.
     pub fn part_of(&self, k: u32) -> usize
         ensures { k < length (tables self.now).rows → Seated (tables self.now).bounds k result }
     {
@@ -92,7 +92,8 @@ impl Table {
         self.stage < self.count()
     }
 
-    /// Gives each part its sample size, the parts' in their order; no, and nothing changes, where they are not as many as the parts.
+    /// Gives each part its sample size, in order, and answers yes; where they are not as many as the parts, answers no and changes
+    /// nothing.
     pub fn ask(&mut self, samples: &[u32]) -> bool
         ensures fits { result ≡ (length (all_parts (tables self.old)) == length samples.now) }
         ensures asked { MatchBool result (tables self.new ≡ asked (tables self.old) samples.now) (tables self.new ≡ tables self.old) }
