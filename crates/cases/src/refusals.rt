@@ -1,6 +1,5 @@
 #[cfg(test)]
 mod tests {
-    use crate::sized;
     use design::design::Design;
     use design::fault::{Fault, Reason};
     use design::row::Row;
@@ -9,7 +8,7 @@ mod tests {
 
     // What begin answers after an accepted one, and whether a run then stands.
     fn begun(s: &mut Systematic, list: &[Row], n: u32) -> (Result<(), Fault>, bool) {
-        let _ = s.begin(&[sized(1)], 1);
+        let _ = s.begin(&[Row::sized(1)], 1);
         (s.begin(list, n), s.share(0).is_ok())
     }
 
@@ -22,20 +21,23 @@ mod tests {
         let mut s = Systematic::new(rt.alloc())?;
         assert_eq!(rt; begun(&mut s, &[], 0), refusal(Reason::EmptyList, 0));
         assert_eq!(rt;
-            begun(&mut s, &[sized(0); 1025], 0),
+            begun(&mut s, &[Row::sized(0); 1025], 0),
             refusal(Reason::TooManyRows, 0)
         );
-        assert_eq!(rt; begun(&mut s, &[sized(0)], 0), refusal(Reason::NoSample, 0));
         assert_eq!(rt;
-            begun(&mut s, &[sized(10_240_001), sized(0)], 2),
+            begun(&mut s, &[Row::sized(0)], 0),
+            refusal(Reason::NoSample, 0)
+        );
+        assert_eq!(rt;
+            begun(&mut s, &[Row::sized(10_240_001), Row::sized(0)], 2),
             refusal(Reason::SizeZero, 1)
         );
         assert_eq!(rt;
-            begun(&mut s, &[sized(10_240_000), sized(1)], 2),
+            begun(&mut s, &[Row::sized(10_240_000), Row::sized(1)], 2),
             refusal(Reason::TotalTooLarge, 1)
         );
         assert_eq!(rt;
-            begun(&mut s, &[sized(1), sized(5)], 2),
+            begun(&mut s, &[Row::sized(1), Row::sized(5)], 2),
             refusal(Reason::ShareAboveOne, 1)
         );
         Ok(())
@@ -44,18 +46,18 @@ mod tests {
     #[test]
     fn limits(rt: HostRuntime) -> Result<(), Fail> {
         let mut s = Systematic::new(rt.alloc())?;
-        assert_eq!(rt; begun(&mut s, &[sized(10_240_000)], 1), (Ok(()), true));
+        assert_eq!(rt; begun(&mut s, &[Row::sized(10_240_000)], 1), (Ok(()), true));
         assert_eq!(rt;
-            begun(&mut s, &[sized(10_240_001)], 1),
+            begun(&mut s, &[Row::sized(10_240_001)], 1),
             refusal(Reason::TotalTooLarge, 0)
         );
         assert_eq!(rt;
-            begun(&mut s, &[sized(u32::MAX); 2], u32::MAX),
+            begun(&mut s, &[Row::sized(u32::MAX); 2], u32::MAX),
             refusal(Reason::TotalTooLarge, 0)
         );
-        assert_eq!(rt; begun(&mut s, &[sized(1); 1024], 1024), (Ok(()), true));
+        assert_eq!(rt; begun(&mut s, &[Row::sized(1); 1024], 1024), (Ok(()), true));
         assert_eq!(rt;
-            begun(&mut s, &[sized(1); 1024], 1025),
+            begun(&mut s, &[Row::sized(1); 1024], 1025),
             refusal(Reason::ShareAboveOne, 0)
         );
         Ok(())
@@ -65,7 +67,7 @@ mod tests {
     fn throws_and_units(rt: HostRuntime) -> Result<(), Fail> {
         let mut s = Systematic::new(rt.alloc())?;
         assert_eq!(rt; (s.step(0), s.ways()), (Err(Fault::of(Reason::NoWays)), 0));
-        s.begin(&[sized(1), sized(2), sized(3)], 2)?;
+        s.begin(&[Row::sized(1), Row::sized(2), Row::sized(3)], 2)?;
         assert_eq!(rt;
             (s.step(6), s.ways()),
             (Err(Fault::of(Reason::NoSuchThrow)), 6)

@@ -1,21 +1,14 @@
 -- The loops over the rows of a list, and what an accepted list has.
-use Rattle.std.proofs.Common.{◌≡◌, ℕ, zero, suc, ◌+◌, ◌-◌, ◌<◌, ◌≤◌, eqb, ltb, List, length, Some, None, ap, add-one, arith}
-use Rattle.std.proofs.lemmas.Bool.{lt-ltb, le-ltb, ltb-false, eqb-false}
+use Rattle.std.proofs.Common.{◌≡◌, ℕ, zero, suc, ◌+◌, ◌-◌, ◌<◌, ◌≤◌, eqb, ltb, List, length, Some, None, arith}
+use Rattle.std.proofs.lemmas.Bool.{lt-ltb, ltb-false, eqb-false}
 use Rattle.design.specs.declared.row.Row.{Row}
 use Rattle.design.specs.Faults.{refused_if}
 use Rattle.design.specs.Lists.{first, no_size, passes, size_at, total_before, total, count_refusal, size_refusal, total_refusal, list_refusal}
-use Rattle.design.proofs.Firsts.{first_more, first_here, first_none, neither, no_row, not_refused}
+use Rattle.design.proofs.Firsts.{first_here, first_none, neither, no_row, not_refused}
 
 -- the running total over the first i rows
 abbrev pub Summed : List Row → ℕ → ℕ → Type 0
 Summed list i sum = (first i (passes list) ≡ None) × (sum ≡ total_before list i) × (sum ≤ 10240000)
-
-pub passes_more : (list : List Row) (i sum : ℕ) → Summed list i sum → size_at list i ≤ 10240000 - sum → Summed list (i + 1) (sum + size_at list i)
-passes_more list i sum inv l = (
-  first_more i (passes list) inv.0 (le-ltb 10240000 (total_before list i + size_at list i) (omega arith)),
-  rw add-one (ap (λ x. x + size_at list i) inv.1),
-  omega arith,
-)
 
 pub passes_here : (list : List Row) (i sum : ℕ) → Summed list i sum → 10240000 - sum < size_at list i → i < length list → first (length list) (passes list) ≡ Some i
 passes_here list i sum inv l here =

@@ -1,5 +1,9 @@
 -- The first number that passes a test, and the refusals made of it.
-use Rattle.std.proofs.Common.{◌≡◌, ℕ, zero, suc, ◌+◌, ◌<◌, ◌≤◌, Bool, true, false, cond, Some, None, Ok, Err, Option, sym, refl, ap, ◌∙◌, subst, ap₂, add-one, arith}
+use Rattle.std.proofs.Common.{◌≡◌, ℕ, zero, suc, ◌+◌, ◌<◌, ◌≤◌, Bool, true, false, cond, List, length, slice_index_or, Some, None, Ok, Err, Option, sym, refl, ap, ◌∙◌, subst, ap₂, add-one, arith}
+use Rattle.std.specs.List.{position, position_or_len}
+use Rattle.std.proofs.lemmas.Grind.{common_steps}
+use Rattle.std.proofs.lemmas.List.Sums.{fails_before_first}
+use Rattle.std.proofs.lemmas.List.Quantifiers.{position-Some}
 use native.Mathlib.Decide.{ℕ_discrete}
 use Rattle.design.specs.declared.fault.Fault.{Fault}
 use Rattle.design.specs.Faults.{Refusal, numbered, refusal_at, Answers, or_else, refused_if, refused_at}
@@ -53,6 +57,25 @@ first_below (suc m) p k e = by (first_below m p k) (first m p) refl e
     by before None f e = last (p m) e
     by before (Some j) f e = omega (arith, before (f ∙ e))
 
+pub none_first : (n : ℕ) (p : ℕ → Bool) → ((k : ℕ) → k < n → p k ≡ false) → first n p ≡ None
+none_first zero p h = refl
+none_first (suc m) p h = subst (λ i. first i p ≡ None) (add-one m) (first_more m p (none_first m p (λ k l. h k (omega arith))) (h m (omega arith)))
+
+-- the first item of a list that passes stands at the first number whose item passes
+pub first_item : {X : Type 0} (p : X → Bool) (xs : List X) (d : X) → position p xs ≡ first (length xs) (λ k. p (slice_index_or xs k d))
+first_item p xs d = by (position p xs) refl
+  where
+    at : ℕ → Bool
+    at k = p (slice_index_or xs k d)
+
+    by : (o : Option ℕ) → position p xs ≡ o → o ≡ first (length xs) at
+    by (Some i) e =
+        let h = position-Some p xs i d e in
+        sym (first_here (length xs) i at (none_first i at h.2) h.1 h.0)
+    by None e =
+        let all : length xs ≤ position_or_len p xs = grind (arith, common_steps) in
+        sym (none_first (length xs) at (λ k l. fails_before_first p xs k d (omega arith)))
+
 -- ---- checks
 pub not_refused : (b : Bool) (number : ℕ) → refused_if b number ≡ None → b ≡ false
 not_refused true number e = nothing _ e
@@ -65,9 +88,6 @@ no_row (Some k) number e = nothing _ e
 pub answers_at : {U : Type 0} (number : ℕ) (o : Option ℕ) (k : ℕ) (Q : U → Type 0) (f : Fault) → o ≡ Some k → numbered f ≡ refusal_at number k
     → Answers {A = U} (refused_at o number) Q (Err f)
 answers_at {U} number o k Q f e is = subst (λ x. Answers {A = U} (refused_at x number) Q (Err f)) (sym e) is
-
-pub answers_none : {U : Type 0} (number : ℕ) (o : Option ℕ) (Q : U → Type 0) (u : U) → o ≡ None → Q u → Answers {A = U} (refused_at o number) Q (Ok u)
-answers_none {U} number o Q u e q = subst (λ x. Answers {A = U} (refused_at x number) Q (Ok u)) (sym e) q
 
 -- ---- answers
 pub accepted : {U : Type 0} (o : Option Refusal) (Q : U → Type 0) (u : U) → Answers {A = U} o Q (Ok u) → (o ≡ None) × Q u

@@ -1,15 +1,27 @@
-ghost use Rattle.std.specs.Prelude.{◌≡◌, ◌≤◌, length};
-ghost use Rattle.design.specs.Faults.{Answers};
+ghost use Rattle.std.specs.Prelude.{◌≡◌, ◌^◌, ◌<◌, ◌≤◌, length, IfSome};
+ghost use Rattle.design.specs.Faults.{Answers, number_of, refused_at};
 ghost use Rattle.design.specs.Lists.{total, count_refusal, size_refusal, total_refusal, list_refusal};
 
 use crate::fault::{Fault, Reason};
 use crate::row::Row;
 
-/// The most rows that a list may have.
+/// The most rows that a list may have. What relies on it asks for it by a clause on the slice: a type around the slice would name a
+/// lifetime, and every clause would have to speak of it as `list.entry.rows.now`.
 pub const MOST_ROWS: usize = 1024;
 
 /// The largest total of the sizes, and so the most ways that a throw may have.
 pub const LARGEST_TOTAL: u32 = 10_240_000;
+
+/// Refuses the row that was found at fault, if one was.
+pub fn refuse_at(row: Option<usize>, reason: Reason) -> Result<(), Fault>
+    requires { IfSome row (λ k. k < 2 ^ 32) }
+    ensures { Answers (refused_at row (number_of reason)) (λ _. Unit {0}) result }
+{
+    match row {
+        Some(k) => Err(Fault::at(reason, k as u32)),
+        None => Ok(()),
+    }
+}
 
 /// Refuses an empty list and one of too many rows.
 pub fn check_count(list: &[Row]) -> Result<(), Fault>
@@ -29,12 +41,7 @@ fn check_sizes(list: &[Row]) -> Result<(), Fault>
     requires { length list.now ≤ 1024 }
     ensures { Answers (size_refusal list.now) (λ _. Unit {0}) result }
 {
-    for (i, row) in list.iter().enumerate() {
-        if row.size == 0 {
-            return Err(Fault::at(Reason::SizeZero, i as u32));
-        }
-    }
-    Ok(())
+    refuse_at(list.iter().position(|row| row.size == 0), Reason::SizeZero)
 }
 
 // The total of the sizes, or a fault at the row at which it passes the largest.

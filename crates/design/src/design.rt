@@ -4,6 +4,7 @@ ghost use Rattle.design.specs.Laws.{PrescribedFirst, OneNumerator};
 ghost use Rattle.design.specs.declared.row.Row.{Row};
 
 use crate::fault::Fault;
+use crate::fraction::Fraction;
 use crate::row::Row;
 
 /// A sampling design. Whatever shows these promises is one.
@@ -23,7 +24,7 @@ pub trait Design {
         ensures whole { intact self.new }
         ensures settings { plan self.new ≡ plan self.old };
 
-    /// The ways of the next throw, and 0 where the run has come to its outcome or no run stands.
+    /// The ways of the next throw; by the rule of the call 0, and not None, where the run has come to its outcome or no run stands.
     fn ways(&self) -> u32
         ensures { intact self.now → result ≡ ways_of (tree self.now) };
 
@@ -33,16 +34,16 @@ pub trait Design {
         ensures whole { intact self.old → intact self.new }
         ensures settings { plan self.new ≡ plan self.old };
 
-    /// The inclusion share of the unit k in the present tree: numerator and denominator.
-    fn share(&self, k: u32) -> Result<(u64, u64), Fault>
+    /// The inclusion share of the unit k in the present tree, with the unit's denominator.
+    fn share(&self, k: u32) -> Result<Fraction, Fault>
         ensures { intact self.now → Shared (tree self.now) k result };
 
     /// Whether the unit k is in every outcome of the present tree.
     fn taken(&self, k: u32) -> Result<bool, Fault>
         ensures { intact self.now → Taken (tree self.now) k result }
     {
-        let (part, whole) = self.share(k)?;
-        Ok(part == whole)
+        let share = self.share(k)?;
+        Ok(share.is_whole())
     }
 
     ghost sound: { (s : Self) (list : List Row) (n : ℕ) → SoundPlan list (plan s list n) };

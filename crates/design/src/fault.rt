@@ -7,30 +7,30 @@ use std::fmt;
 /// Why a call was refused. Each reason has a published number.
 #[derive(Clone, Copy, PartialEq, Eq, Debug)]
 pub enum Reason {
-    EmptyList,
-    TooManyRows,
-    NoSample,
-    SizeZero,
-    TotalTooLarge,
-    ShareAboveOne,
-    TakesOutOfRange,
-    TakeZero,
-    WithinOutOfRange,
-    NothingSet,
-    OutOfOrder,
-    StrataNotTakes,
-    TakesNotSample,
-    SampleNotMultiple,
-    TooManyClusters,
-    DenominatorTooLarge,
-    NoWays,
-    NoSuchThrow,
-    NoSuchUnit,
-    WaysOutOfRange,
-    Dry,
+    EmptyList = 1,
+    TooManyRows = 2,
+    NoSample = 3,
+    SizeZero = 4,
+    TotalTooLarge = 5,
+    ShareAboveOne = 6,
+    TakesOutOfRange = 7,
+    TakeZero = 8,
+    WithinOutOfRange = 9,
+    NothingSet = 10,
+    OutOfOrder = 11,
+    StrataNotTakes = 12,
+    TakesNotSample = 13,
+    SampleNotMultiple = 14,
+    TooManyClusters = 15,
+    DenominatorTooLarge = 16,
+    NoWays = 17,
+    NoSuchThrow = 18,
+    NoSuchUnit = 19,
+    WaysOutOfRange = 20,
+    Dry = 21,
 }
 
-/// A refusal: its reason, the row concerned (0 where none is), and how many layers have passed it upward.
+/// A refusal: its reason, the row concerned (by rule 0 where none is), and how many layers have passed it upward.
 #[derive(Clone, Copy, PartialEq, Eq, Debug)]
 pub struct Fault {
     pub reason: Reason,
@@ -43,29 +43,7 @@ impl Reason {
     pub fn number(self) -> u8
         ensures { result ≡ number_of self }
     {
-        match self {
-            Reason::EmptyList => 1,
-            Reason::TooManyRows => 2,
-            Reason::NoSample => 3,
-            Reason::SizeZero => 4,
-            Reason::TotalTooLarge => 5,
-            Reason::ShareAboveOne => 6,
-            Reason::TakesOutOfRange => 7,
-            Reason::TakeZero => 8,
-            Reason::WithinOutOfRange => 9,
-            Reason::NothingSet => 10,
-            Reason::OutOfOrder => 11,
-            Reason::StrataNotTakes => 12,
-            Reason::TakesNotSample => 13,
-            Reason::SampleNotMultiple => 14,
-            Reason::TooManyClusters => 15,
-            Reason::DenominatorTooLarge => 16,
-            Reason::NoWays => 17,
-            Reason::NoSuchThrow => 18,
-            Reason::NoSuchUnit => 19,
-            Reason::WaysOutOfRange => 20,
-            Reason::Dry => 21,
-        }
+        self as u8
     }
 }
 

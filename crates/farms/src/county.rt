@@ -1,6 +1,7 @@
 use design::row::Row;
 
 /// A farm by its name and the size of its land.
+#[derive(Clone, Copy)]
 pub struct Farm {
     pub name: &'static str,
     pub hectares: u32,
@@ -52,13 +53,5 @@ pub const FARMS: [Farm; 10] = [
 
 /// The list that a design takes: one row for each farm, by hectares.
 pub fn rows() -> [Row; 10] {
-    let mut rows = [Row {
-        stratum: 0,
-        cluster: 0,
-        size: 0,
-    }; 10];
-    for (row, farm) in rows.iter_mut().zip(FARMS.iter()) {
-        row.size = farm.hectares;
-    }
-    rows
+    FARMS.map(|farm| Row::sized(farm.hectares))
 }

@@ -22,6 +22,8 @@ fn draw<D: Design>(rt: &impl Print, name: &str, design: &mut D) -> anyhow::Resul
     let mut source = Xorshift32::new(SEED, WORDS);
     design.begin(&rows(), SAMPLE)?;
     print!(rt; "{name:<12}")?;
+    // As in `roads`: no crate lies below both programs, and a library's call would need a promise for their sake alone. The loop counts
+    // its turns, since nothing else shows that it ends.
     for _ in 0..WORDS {
         let ways = design.ways();
         if ways == 0 {
@@ -50,7 +52,9 @@ fn print_list<A: Design, B: Design, C: Design>(
     println!(rt; "unit  farm          hectares     share  systematic  pivotal  Poisson")?;
     for (i, farm) in FARMS.iter().enumerate() {
         let k = i as u32;
-        let (part, whole) = fresh.share(k)?;
+        let share = fresh.share(k)?;
+        let part = share.numerator;
+        let whole = share.denominator;
         let name = farm.name;
         let hectares = farm.hectares;
         print!(rt; "{k:>4}  {name:<12}  {hectares:>8}  {part:>3}/{whole}")?;

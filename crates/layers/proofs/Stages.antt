@@ -4,7 +4,7 @@ use Rattle.outcomes.specs.Trees.{Tree, finished, branching, Sample, weight, incl
 use Rattle.outcomes.proofs.Trees.{lawful_ways}
 use Rattle.design.specs.Design.{Run, Standing, no_run, in_run, Shared, Fair, SoundRun, SoundStanding, ways_of, below}
 use Rattle.parts.specs.Parts.{Part, place_of}
-use Rattle.parts.specs.Series.{Plans, nothing, series, resumed, chosen, numerators, denominators}
+use Rattle.parts.specs.Series.{Plans, fraction, nothing, series, resumed, chosen, numerators, denominators}
 use Rattle.parts.specs.Bounds.{Inside}
 use Rattle.parts.specs.Seats.{Seated}
 use Rattle.parts.specs.Copying.{Over, outcome_of, outcome_in}
@@ -99,8 +99,8 @@ module _ (B : Plans) (law : SoundPlans B) (v : Tables) (L : Loaded B v) where
       fair_stages B law (all_parts v) 0 (length v.rows) k num (r.denominator (place_of 0 (all_parts v) k)) r.tree (lawful_ways (length (all_parts v)) r.tree f.lawful)
       (apart v L.rising) L.accepted (inside k l) h
 
-  pub shared_first : (st : Standing) → Fits B v st → (k j : ℕ) → k < length v.rows → Seated v.bounds k j → (num den : ℕ) → Shared st j (Ok (num, den))
-      → Shared (in_first B v st) k (Ok (num * numerators B (all_parts v) k, den * denominators B (all_parts v) k))
+  pub shared_first : (st : Standing) → Fits B v st → (k j : ℕ) → k < length v.rows → Seated v.bounds k j → (num den : ℕ) → Shared st j (Ok (fraction num den))
+      → Shared (in_first B v st) k (Ok (fraction (num * numerators B (all_parts v) k) (den * denominators B (all_parts v) k)))
   shared_first no_run f k j l s num den h = absurd h
   shared_first (in_run r) f k j l s num den h =
       let at = seat_place v L.rising k j s in (
@@ -131,17 +131,17 @@ module _ (B : Plans) (law : SoundPlans B) (v : Tables) (L : Loaded B v) where
   }
 
   -- a run of the series is one over the list
-  shared_over : (st : Standing) → Fits B v st → (su : Standing) → (b : Bool) (x : Standing) → su ≡ standing_by b B v x → (k j : ℕ) → Seated v.bounds k j → (num den : ℕ) → Shared st j (Ok (num, den))
-      → (p q : ℕ) → Shared su k (Ok (p, q)) → Shared (in_second B v st su) k (Ok (den * p, den * q))
+  shared_over : (st : Standing) → Fits B v st → (su : Standing) → (b : Bool) (x : Standing) → su ≡ standing_by b B v x → (k j : ℕ) → Seated v.bounds k j → (num den : ℕ) → Shared st j (Ok (fraction num den))
+      → (p q : ℕ) → Shared su k (Ok (fraction p q)) → Shared (in_second B v st su) k (Ok (fraction (den * p) (den * q)))
   shared_over no_run f su b x e k j s num den h p q g = absurd f
   shared_over (in_run r) f su b x e k j s num den h p q g =
       let at = seat_place v L.rising k j s in
-      subst (λ (z : Standing). Shared (in_second B v (in_run r) z) k (Ok (den * p, den * q))) (sym e) (by b x (subst (λ (z : Standing). Shared z k (Ok (p, q))) e g))
+      subst (λ (z : Standing). Shared (in_second B v (in_run r) z) k (Ok (fraction (den * p) (den * q)))) (sym e) (by b x (subst (λ (z : Standing). Shared z k (Ok (fraction p q))) e g))
     where
       is : den ≡ r.denominator (place_of 0 (all_parts v) k)
       is = h.1.0 ∙ ap r.denominator (sym (seat_place v L.rising k j s))
 
-      run : (t : Tree Sample) → Shared (in_run (run_over B v t)) k (Ok (p, q)) → Shared (in_run (stages_over B v r t)) k (Ok (den * p, den * q))
+      run : (t : Tree Sample) → Shared (in_run (run_over B v t)) k (Ok (fraction p q)) → Shared (in_run (stages_over B v r t)) k (Ok (fraction (den * p) (den * q)))
       run t g = (
         g.0,
         (
@@ -150,13 +150,13 @@ module _ (B : Plans) (law : SoundPlans B) (v : Tables) (L : Loaded B v) where
         ),
       )
 
-      by : (b : Bool) (x : Standing) → Shared (standing_by b B v x) k (Ok (p, q)) → Shared (in_second B v (in_run r) (standing_by b B v x)) k (Ok (den * p, den * q))
+      by : (b : Bool) (x : Standing) → Shared (standing_by b B v x) k (Ok (fraction p q)) → Shared (in_second B v (in_run r) (standing_by b B v x)) k (Ok (fraction (den * p) (den * q)))
       by true no_run g = absurd g
       by true (in_run y) g = run (resumed B (part_at v v.stage) (ahead v (v.stage + 1)) (so_far v) y.tree) g
       by false x g = run (finished (so_far v)) g
 
-  pub shared_second : (st su : Standing) → Fits B v st → (k j : ℕ) → Seated v.bounds k j → (num den : ℕ) → Shared st j (Ok (num, den)) → (p q : ℕ) → Shared (standing_of B v su) k (Ok (p, q))
-      → Shared (in_second B v st (standing_of B v su)) k (Ok (den * p, den * q))
+  pub shared_second : (st su : Standing) → Fits B v st → (k j : ℕ) → Seated v.bounds k j → (num den : ℕ) → Shared st j (Ok (fraction num den)) → (p q : ℕ) → Shared (standing_of B v su) k (Ok (fraction p q))
+      → Shared (in_second B v st (standing_of B v su)) k (Ok (fraction (den * p) (den * q)))
   shared_second st su f k j s num den h p q g = shared_over st f (standing_of B v su) (has_present v) su refl k j s num den h p q g
 
   pub exact_second : (st su : Standing) → Fits B v st → SoundStanding st → SoundStanding (standing_of B v su) → SoundStanding (in_second B v st (standing_of B v su))

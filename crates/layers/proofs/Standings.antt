@@ -30,16 +30,8 @@ answers_last {A} x y t P Q r n m h q =
     by (Some f) (Ok a) h q = h
     by (Some f) (Err e) h q = h
 
--- ---- begin, whose refusals are x and then y
+-- ---- an accepted begin, whose refusals are x and then y
 module _ (U : Type 0) (x y : Option Refusal) (num : ℕ → ℕ) (run : Run) where
-  pub refused_first : (e : Fault) → x ≡ Some (numbered e) → Began {U = U} (plan_of (or_else x y) num run) (Err e) no_run
-  refused_first e h = subst (λ (o : Option Refusal). Began {U = U} (plan_of (or_else o y) num run) (Err e) no_run) (sym h) (refl, refl)
-
-  pub refused_then : (e : Fault) → x ≡ None → y ≡ Some (numbered e) → Began {U = U} (plan_of (or_else x y) num run) (Err e) no_run
-  refused_then e n h =
-      subst (λ (o : Option Refusal). Began {U = U} (plan_of (or_else o y) num run) (Err e) no_run) (sym n)
-      (subst (λ (o : Option Refusal). Began {U = U} (plan_of o num run) (Err e) no_run) (sym h) (refl, refl))
-
   pub begun : (u : U) (st : Standing) → x ≡ None → y ≡ None → st ≡ in_run run → Began {U = U} (plan_of (or_else x y) num run) (Ok u) st
   begun u st n m h =
       subst (λ (o : Option Refusal). Began {U = U} (plan_of (or_else o y) num run) (Ok u) st) (sym n)

@@ -1,31 +1,15 @@
 -- The goals of a list, and what an accepted list has.
-use Rattle.std.proofs.Common.{◌≡◌, ℕ, ◌+◌, ◌*◌, ◌<◌, ◌≤◌, List, [], ◌∷◌, ◌++◌, length, get_or, take, Some, None, sym, ap, subst, mul-pos, arith}
-use Rattle.std.proofs.lemmas.Bool.{lt-ltb, le-ltb, ltb-false}
-use Rattle.std.proofs.lemmas.List.{map_more, take_all, get_or-map, length-map}
+use Rattle.std.proofs.Common.{◌≡◌, ℕ, ◌*◌, ◌<◌, ◌≤◌, List, length, get_or, Some, None, sym, subst, mul-pos, arith}
+use Rattle.std.proofs.lemmas.Bool.{lt-ltb, ltb-false}
+use Rattle.std.proofs.lemmas.List.{get_or-map, length-map}
 use Rattle.design.specs.Lists.{first, size_at, total, list_refusal}
 use Rattle.design.specs.declared.row.Row.{Row}
-use Rattle.design.proofs.Firsts.{first_more, first_here, first_none, neither, no_row}
+use Rattle.design.proofs.Firsts.{first_here, first_none, neither, no_row}
 use Rattle.design.proofs.Checks.{Checked, checked}
 use Rattle.methods.specs.Plain.{goals, above_total, plain_refusal}
 
--- ---- the loop that notes the goals
-pub above_more : (list : List Row) (n i all : ℕ) → all ≡ total list → first i (above_total list n) ≡ None → n * size_at list i ≤ all → first (i + 1) (above_total list n) ≡ None
-above_more list n i all e inv l = first_more i (above_total list n) inv (le-ltb (total list) (n * size_at list i) (omega arith))
-
 pub above_here : (list : List Row) (n i all : ℕ) → all ≡ total list → first i (above_total list n) ≡ None → all < n * size_at list i → i < length list → first (length list) (above_total list n) ≡ Some i
 above_here list n i all e inv l here = first_here (length list) i (above_total list n) inv (lt-ltb (total list) (n * size_at list i) (omega arith)) here
-
-pub goals_more : (list : List Row) (n i : ℕ) → i < length list → goals (take (i + 1) list) n ≡ goals (take i list) n ++ n * size_at list i ∷ []
-goals_more list n i l = map_more (λ (r : Row). n * r.size) list i (record { stratum = 0; cluster = 0; size = 0 }) l
-
-at_length : (list : List Row) (i : ℕ) → i ≤ length list → length list ≤ i → i ≡ length list
-at_length list i l m = omega arith
-
-pub above_all : (list : List Row) (n i : ℕ) → first i (above_total list n) ≡ None → i ≤ length list → length list ≤ i → first (length list) (above_total list n) ≡ None
-above_all list n i e l m = subst (λ x. first x (above_total list n) ≡ None) (at_length list i l m) e
-
-pub goals_all : (list : List Row) (n i : ℕ) → length list ≤ i → goals (take i list) n ≡ goals list n
-goals_all list n i m = ap (λ xs. goals xs n) (take_all i list m)
 
 -- ---- what an accepted list has
 pub record Fine (list : List Row) (n : ℕ) : Type 0 where

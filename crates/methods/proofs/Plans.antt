@@ -1,14 +1,13 @@
 -- The plan of a plain design, whatever its tree.
-use Rattle.std.proofs.Common.{◌≡◌, ℕ, ◌<◌, Bool, true, false, eqb, ltb, ◌⊎◌, List, length, get_or, Some, None, Ok, Option, sym, refl, ap, ◌∙◌, subst, ap₂, inl, inr, arith}
+use Rattle.std.proofs.Common.{◌≡◌, ℕ, ◌<◌, Bool, true, false, eqb, ltb, ◌⊎◌, List, length, get_or, Some, None, Option, sym, refl, subst, inl, inr, arith}
 use Rattle.outcomes.specs.Trees.{Tree, Sample, Share, Lawful}
 use Rattle.design.specs.Faults.{Refusal, or_else, refused_if, refused_at}
 use Rattle.design.specs.Lists.{first, no_size, passes, total}
-use Rattle.design.specs.Design.{plan_of, in_run, Began, SoundPlan}
+use Rattle.design.specs.Design.{plan_of, SoundPlan}
 use Rattle.design.specs.declared.row.Row.{Row}
 use Rattle.design.proofs.Firsts.{first_below}
 use Rattle.methods.specs.Plain.{goals, above_total, plain_refusal, plain_run, plain_plan}
-use Rattle.methods.specs.Holdings.{standing}
-use Rattle.methods.proofs.Goals.{Fine, fine, goals_long, goal_some, goal_most}
+use Rattle.methods.proofs.Goals.{Fine, fine, goal_some, goal_most}
 
 -- ---- a refusal names row 0 or a row of the list
 module _ (list : List Row) where
@@ -67,13 +66,3 @@ pub record Prepared (list : List Row) (n all : ℕ) (items : List ℕ) : Type 0 
 pub prepared_fine : (list : List Row) (n all : ℕ) (items : List ℕ) → Prepared list n all items → (P : ℕ → List ℕ → Type 0) → (Fine list n → P (total list) (goals list n)) → P all items
 prepared_fine list n all items p P h =
     subst (λ x. P x items) (sym p.all_is) (subst (λ xs. P (total list) xs) (sym p.items_are) (h (fine list n p.accepts)))
-
-pub plain_begun : {U : Type 0} (list : List Row) (n : ℕ) (running : Bool) (all : ℕ) (items : List ℕ) (present first : Tree Sample) (u : U) → Prepared list n all items
-    → running ≡ true → (all ≡ total list → items ≡ goals list n → present ≡ first)
-    → Began {U = U} (plain_plan list n first) (Ok u) (standing running all items present)
-plain_begun {U} list n running all items present first u p e same =
-    subst (λ o. Began {U = U} (plan_of o (λ k. get_or (goals list n) k 0) (plain_run (total list) (length list) first)) (Ok u) (standing running all items present))
-    (sym p.accepts)
-    (ap (λ b. standing b all items present) e
-    ∙ ap₂ (λ tr un. in_run (plain_run all un tr)) (same p.all_is p.items_are) (ap length p.items_are ∙ goals_long list n)
-    ∙ ap (λ x. in_run (plain_run x (length list) first)) p.all_is)

@@ -1,7 +1,6 @@
 -- The tree of Poisson drawing: that the shares are exact, and that the state of a run follows its tree.
-use Rattle.std.proofs.Common.{◌≡◌, ℕ, zero, suc, ◌+◌, ◌-◌, ◌*◌, ◌<◌, ◌≤◌, Bool, true, false, cond, T, eqb, ltb, ◌≢◌, ◌⊎◌, List, [], ◌∷◌, length, get_or, drop, set, Ok, sym, refl, ap, ◌∙◌, subst, ap₂, inl, inr, add-one, arith}
+use Rattle.std.proofs.Common.{◌≡◌, ℕ, zero, suc, ◌+◌, ◌-◌, ◌*◌, ◌<◌, ◌≤◌, Bool, true, false, cond, T, eqb, ltb, ◌≢◌, List, [], ◌∷◌, length, get_or, drop, set, sym, refl, ap, ◌∙◌, subst, ap₂, inl, inr, add-one, arith}
 use mathlib.Core.Path.{fun_ext}
-use mathlib.Core.Logic.{∥∥₁_elim}
 use native.Mathlib.Decide.{ℕ_discrete}
 use denote.Struct.Props.{props}
 use Rattle.std.proofs.lemmas.Bool.{lt-ltb, le-ltb, eq-eqb, ne_eqb, eqb-true, cases_lt}
@@ -9,16 +8,14 @@ use Rattle.std.proofs.lemmas.List.{drop_more, drop_all, drop-set-lt, get_or-set_
 use Rattle.outcomes.specs.Trees.{Sample, with, weight, expect, Share, Lawful, ways, subtree}
 use Rattle.outcomes.proofs.Trees.{share_two, either}
 use Rattle.design.specs.Lists.{total}
-use Rattle.design.specs.Design.{Standing, in_run, Began, ways_of, below}
 use Rattle.design.specs.declared.row.Row.{Row}
-use Rattle.methods.specs.Plain.{goals, plain_run}
-use Rattle.methods.specs.Poisson.{poisson, poisson_plan}
-use Rattle.methods.specs.Holdings.{standing, taken_of}
+use Rattle.methods.specs.Plain.{goals}
+use Rattle.methods.specs.Poisson.{poisson}
+use Rattle.methods.specs.Holdings.{taken_of}
 use Rattle.methods.specs.PoissonRuns.{poisson_tree, Held}
 use Rattle.methods.specs.Laws.{PoissonSound}
 use Rattle.methods.proofs.Goals.{Fine, goals_long, goal_most, total_some}
-use Rattle.methods.proofs.Plans.{Prepared, prepared_fine, plain_sound, plain_begun}
-use Rattle.methods.proofs.Holdings.{no_way}
+use Rattle.methods.proofs.Plans.{Prepared, prepared_fine, plain_sound}
 use Rattle.methods.proofs.Taking.{with_other, with_same, one_more, none_called, taken_called}
 
 -- ---- fairness
@@ -168,13 +165,6 @@ lawful all holds j h =
     lawful_from all (drop j holds) j (taken_of all holds j) (length holds) h.0 h.1
     (λ k t. omega (arith, taken_called all holds j k t, h.2)) (simp length-drop (omega (arith, h.2)))
 
--- ---- the fact of the ghost field
-held_one : (all : ℕ) (holds : List ℕ) (called : ℕ) (running : Bool) → IsProp (running ≡ true → Held all holds called)
-held_one all holds called running = hlevel props
-
-pub holding : (all : ℕ) (holds : List ℕ) (called : ℕ) (running : Bool) → ∥ (running ≡ true → Held all holds called) ∥₁ → running ≡ true → Held all holds called
-holding all holds called running h = ∥∥₁_elim h (held_one all holds called running) (λ x. x)
-
 -- ---- the plan
 held_start : (list : List Row) (n : ℕ) → Fine list n → Held (total list) (goals list n) 0
 held_start list n f = (
@@ -193,51 +183,23 @@ poisson_sound list n = plain_sound list n (poisson (total list) (goals list n) 0
     (fair (total list) (goals list n) 0 k (held_start list n f) (subst (λ x. k < x) (sym (goals_long list n)) l)))
 
 -- ---- the calls
-abbrev pub at : Bool → ℕ → List ℕ → ℕ → Standing
-at running all holds called = standing running all holds (poisson_tree all holds called)
+pub held_once : (all : ℕ) (holds : List ℕ) (called : ℕ) → IsProp (Held all holds called)
+held_once all holds called = hlevel props
 
 pub held_begun : (list : List Row) (n all : ℕ) (items : List ℕ) → Prepared list n all items → Held all items 0
 held_begun list n all items p = prepared_fine list n all items p (λ x xs. Held x xs 0) (held_start list n)
 
-pub begun : {U : Type 0} (list : List Row) (n : ℕ) (running : Bool) (all : ℕ) (items : List ℕ) (u : U) → Prepared list n all items → running ≡ true
-    → Began {U = U} (poisson_plan list n) (Ok u) (at running all items 0)
-begun list n running all items u p e =
-    plain_begun list n running all items (poisson_tree all items 0) (poisson (total list) (goals list n) 0 (λ _. false)) u p e
-    (λ et ei. ap₂ (λ x xs. poisson_tree x xs 0) et ei ∙ sym (began (total list) (goals list n)))
-
-pub ways_at : (running : Bool) (all : ℕ) (holds : List ℕ) (called : ℕ) → running ≡ true → called < length holds → all ≡ ways_of (at running all holds called)
-ways_at true all holds called e l = sym (ways_open all holds called l)
-ways_at false all holds called e l = no_way (sym e)
-
-pub ways_end : (running : Bool) (all : ℕ) (holds : List ℕ) (called : ℕ) → (running ≡ false) ⊎ (length holds ≤ called) → 0 ≡ ways_of (at running all holds called)
-ways_end true all holds called (inl e) = no_way e
-ways_end true all holds called (inr l) = sym (ways_done all holds called l)
-ways_end false all holds called e = refl
-
--- a run with m ways is one with a unit still to be called
-pub record Open (all : ℕ) (holds : List ℕ) (called m : ℕ) : Type 0 where
-  pub more : called < length holds
-  pub whole : m ≡ all
-  pub held_now : Held all holds called
-
-pub open_at : (running : Bool) (all : ℕ) (holds : List ℕ) (called m : ℕ) → ∥ (running ≡ true → Held all holds called) ∥₁
-    → m ≡ ways_of (at running all holds called) → ¬ (m ≡ 0) → Open all holds called m
-open_at false all holds called m h e some = absurd (some e)
-open_at true all holds called m h e some = elim (cases_lt called (length holds)) [
-  | inl l ↦ record { more = l; whole = e ∙ ways_open all holds called l; held_now = holding all holds called true h refl }
-  | inr l ↦ absurd (some (e ∙ ways_done all holds called l))
+-- where there is a way, there is a unit still to be called
+pub way_more : (all : ℕ) (holds : List ℕ) (called d : ℕ) → d < ways (poisson_tree all holds called) → called < length holds
+way_more all holds called d l = elim (cases_lt called (length holds)) [
+  | inl more ↦ more
+  | inr end ↦ absurd (omega (arith, l, ways_done all holds called end))
 ]
 
--- after the throw: `running'`, `all'` and `after` are the run's as it stands then
-pub step_at : (running : Bool) (all : ℕ) (holds : List ℕ) (called : ℕ) (running' : Bool) (all' : ℕ) (after : List ℕ) (d x : ℕ) → running' ≡ running → all' ≡ all
-    → after ≡ set holds called x → 0 < all → called < length holds → x ≡ cond (ltb d (get_or holds called 0)) all 0
-    → at running' all' after (called + 1) ≡ below (at running all holds called) d
-step_at running all holds called running' all' after d x er ea eh some l e =
-    ap₂ (λ b y. at b y after (called + 1)) er ea ∙ ap (λ xs. at running all xs (called + 1)) eh ∙ by running
-  where
-    by : (running : Bool) → at running all (set holds called x) (called + 1) ≡ below (at running all holds called) d
-    by true = ap₂ (λ tr un. in_run (plain_run all un tr)) (sym (stepped all holds called d x some l e)) (length-set holds called x)
-    by false = refl
+-- after the throw: `all'` and `after` are the run's as it stands then
+pub step_at : (all : ℕ) (holds : List ℕ) (called all' : ℕ) (after : List ℕ) (d x : ℕ) → all' ≡ all → after ≡ set holds called x → 0 < all → called < length holds
+    → x ≡ cond (ltb d (get_or holds called 0)) all 0 → poisson_tree all' after (called + 1) ≡ subtree (poisson_tree all holds called) d
+step_at all holds called all' after d x ea eh some l e = ap₂ (λ y xs. poisson_tree y xs (called + 1)) ea eh ∙ sym (stepped all holds called d x some l e)
 
 pub held_step : (all : ℕ) (holds : List ℕ) (called : ℕ) (all' : ℕ) (after : List ℕ) (x : ℕ) (b : Bool) → all' ≡ all → after ≡ set holds called x
     → Held all holds called → called < length holds → x ≡ cond b all 0 → Held all' after (called + 1)

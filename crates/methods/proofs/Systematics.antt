@@ -1,26 +1,24 @@
 -- The tree of systematic drawing: what a throw takes, and that the shares are exact.
-use Rattle.std.proofs.Common.{◌≡◌, ℕ, zero, suc, ◌+◌, ◌*◌, ◌<◌, ◌≤◌, Bool, true, false, cond, ◌&&◌, T, eqb, ltb, leb, ◌↔◌, List, length, get_or, Ok, sym, refl, ap, ◌∙◌, subst, ap₂, inl, inr, mul-le-mul_right, mul_comm, arith}
+use Rattle.std.proofs.Common.{◌≡◌, ℕ, zero, suc, ◌+◌, ◌*◌, ◌<◌, ◌≤◌, Bool, true, false, cond, ◌&&◌, T, eqb, ltb, leb, ◌↔◌, List, length, get_or, sym, refl, ap, ◌∙◌, subst, inl, inr, mul-le-mul_right, mul_comm, arith}
 use mathlib.Core.Path.{fun_ext}
 use mathlib.Core.Bool.{false≢true}
-use mathlib.Core.Logic.{∥∥₁_elim}
 use native.Mathlib.Decide.{ℕ_discrete}
 use denote.Struct.Props.{props}
 use Rattle.std.proofs.lemmas.Bool.{eq-eqb, ne_eqb, leb-true, ltb-true, le-leb, lt-ltb, le-ltb, and_parts, and_from, or_cases, or_left, or_right, cases_lt}
 use Rattle.std.proofs.lemmas.List.{get_or_past}
-use Rattle.outcomes.specs.Trees.{finished, Share, Lawful, subtree}
+use Rattle.outcomes.specs.Trees.{finished, Share, Lawful, ways, subtree}
 use Rattle.outcomes.specs.Counting.{Among}
 use Rattle.outcomes.proofs.Trees.{one_throw_weight, one_throw_expect}
 use Rattle.outcomes.proofs.Counting.{counting}
 use Rattle.design.specs.Lists.{total}
 use Rattle.design.specs.declared.row.Row.{Row}
-use Rattle.design.specs.Design.{Standing, in_run, Began, ways_of, below}
-use Rattle.methods.specs.Plain.{goals, plain_run}
-use Rattle.methods.specs.Systematic.{some, among, numbers_from, struck, systematic, systematic_plan}
-use Rattle.methods.specs.Holdings.{standing, Within, taken_of}
+use Rattle.methods.specs.Plain.{goals}
+use Rattle.methods.specs.Systematic.{some, among, numbers_from, struck, systematic}
+use Rattle.methods.specs.Holdings.{Within, taken_of}
 use Rattle.methods.specs.SystematicRuns.{systematic_tree, Held, Struck}
 use Rattle.methods.specs.Laws.{SystematicTakes, SystematicSound}
 use Rattle.methods.proofs.Goals.{Fine, goals_long, goal_most, total_some}
-use Rattle.methods.proofs.Plans.{Prepared, prepared_fine, plain_sound, plain_begun}
+use Rattle.methods.proofs.Plans.{Prepared, prepared_fine, plain_sound}
 use Rattle.methods.proofs.Holdings.{no_way}
 use Rattle.methods.proofs.Taking.{taken_called, share_settled}
 
@@ -96,23 +94,6 @@ stepped all before after r some s = ap finished (fun_ext (λ k. one k))
           ∙ sym (past_none all before r k some (omega (arith, s.0)))
     ]
 
-pub held_struck : (all : ℕ) (before : List ℕ) (thrown : Bool) (all' : ℕ) (after : List ℕ) (r : ℕ) → all' ≡ all → Held all before thrown → Struck all before r after → Held all' after true
-held_struck all before thrown all' after r e h s = subst (λ x. Held x after true) (sym e) (
-  h.0,
-  h.1,
-  omega (arith, h.2, s.0),
-  λ k l. subst (λ x. x ≤ all) (sym (s.1 k (omega (arith, s.0)))) (low (struck all before r k)),
-  λ _ k l u. s.1 k (omega (arith, s.0)) ∙ none (struck all before r k) (subst (λ x. x < all) (s.1 k (omega (arith, s.0))) u),
-)
-  where
-    low : (b : Bool) → cond b all 0 ≤ all
-    low true = omega arith
-    low false = omega arith
-
-    none : (b : Bool) → cond b all 0 < all → cond b all 0 ≡ 0
-    none true l = absurd (omega arith)
-    none false l = refl
-
 -- ---- before and after
 pub fair : (all : ℕ) (holds : List ℕ) (thrown : Bool) (k : ℕ) → Held all holds thrown → k < length holds → Share k (get_or holds k 0) all (systematic_tree all holds thrown)
 fair all holds false k h l = fair_first all holds k h.0 h.3 l
@@ -137,50 +118,26 @@ systematic_sound list n = plain_sound list n (systematic (total list) (goals lis
     (λ f. subst (λ x. Lawful x (systematic (total list) (goals list n))) (goals_long list n) (lawful (total list) (goals list n) false (held_start list n f)))
     (λ f k l. fair (total list) (goals list n) false k (held_start list n f) (subst (λ x. k < x) (sym (goals_long list n)) l))
 
--- ---- the fact of the ghost field
-held_one : (all : ℕ) (holds : List ℕ) (thrown running : Bool) → IsProp (running ≡ true → Held all holds thrown)
-held_one all holds thrown running = hlevel props
-
-pub holding : (all : ℕ) (holds : List ℕ) (thrown running : Bool) → ∥ (running ≡ true → Held all holds thrown) ∥₁ → running ≡ true → Held all holds thrown
-holding all holds thrown running h = ∥∥₁_elim h (held_one all holds thrown running) (λ x. x)
-
 -- ---- the calls
-abbrev pub at : Bool → ℕ → List ℕ → Bool → Standing
-at running all holds thrown = standing running all holds (systematic_tree all holds thrown)
+pub held_once : (all : ℕ) (holds : List ℕ) (thrown : Bool) → IsProp (Held all holds thrown)
+held_once all holds thrown = hlevel props
 
-pub ways_at : (running : Bool) (all : ℕ) (holds : List ℕ) (thrown : Bool) → running ≡ true → thrown ≡ false → all ≡ ways_of (at running all holds thrown)
+pub ways_first : (all : ℕ) (holds : List ℕ) (thrown : Bool) → thrown ≡ false → all ≡ ways (systematic_tree all holds thrown)
 unfolding systematic
-ways_at true all holds false e f = refl
-ways_at true all holds true e f = no_way f
-ways_at false all holds thrown e f = no_way (sym e)
+ways_first all holds false e = refl
+ways_first all holds true e = no_way e
 
--- a run with m ways is one before its throw
-pub record Open (running : Bool) (all : ℕ) (holds : List ℕ) (thrown : Bool) (m : ℕ) : Type 0 where
-  pub unthrown : thrown ≡ false
-  pub whole : m ≡ all
-  pub holding : Held all holds thrown
-
-pub open_at : (running : Bool) (all : ℕ) (holds : List ℕ) (thrown : Bool) (m : ℕ) → ∥ (running ≡ true → Held all holds thrown) ∥₁
-    → m ≡ ways_of (at running all holds thrown) → ¬ (m ≡ 0) → Open running all holds thrown m
+-- a throw below the ways is the first, and below the total
+pub throw_first : (all : ℕ) (holds : List ℕ) (thrown : Bool) (r : ℕ) → r < ways (systematic_tree all holds thrown) → (thrown ≡ false) × (r < all)
 unfolding systematic
-open_at true all holds false m h e some = record { unthrown = refl; whole = e; holding = holding all holds false true h refl }
-open_at true all holds true m h e some = absurd (some e)
-open_at false all holds thrown m h e some = absurd (some e)
+throw_first all holds false r l = (refl, l)
+throw_first all holds true r l = absurd (omega (arith, l))
 
--- after the throw: `running'` and `all'` are the run's as it stands then
-pub step_at : (running : Bool) (all : ℕ) (before : List ℕ) (thrown : Bool) (running' : Bool) (all' : ℕ) (after : List ℕ) (r : ℕ) → running' ≡ running → all' ≡ all
-    → thrown ≡ false → 0 < all → Struck all before r after → at running' all' after true ≡ below (at running all before thrown) r
-step_at running all before thrown running' all' after r er ea e some s = ap₂ (λ b x. at b x after true) er ea ∙ by running thrown e
-  where
-    by : (running thrown : Bool) → thrown ≡ false → at running all after true ≡ below (at running all before thrown) r
-    by true false e = ap₂ (λ tr un. in_run (plain_run all un tr)) (stepped all before after r some s) s.0
-    by true true e = no_way e
-    by false thrown e = refl
+-- after the throw: `all'` is the run's total as it stands then
+pub step_at : (all : ℕ) (before : List ℕ) (thrown : Bool) (all' : ℕ) (after : List ℕ) (r : ℕ) → all' ≡ all → thrown ≡ false → 0 < all → Struck all before r after
+    → systematic_tree all' after true ≡ subtree (systematic_tree all before thrown) r
+step_at all before thrown all' after r e f some s =
+    ap (λ x. systematic_tree x after true) e ∙ stepped all before after r some s ∙ ap (λ b. subtree (systematic_tree all before b) r) (sym f)
 
 pub held_begun : (list : List Row) (n all : ℕ) (items : List ℕ) → Prepared list n all items → Held all items false
 held_begun list n all items p = prepared_fine list n all items p (λ x xs. Held x xs false) (held_start list n)
-
-pub begun : {U : Type 0} (list : List Row) (n : ℕ) (running : Bool) (all : ℕ) (items : List ℕ) (u : U) → Prepared list n all items → running ≡ true
-    → Began {U = U} (systematic_plan list n) (Ok u) (at running all items false)
-begun list n running all items u p e =
-    plain_begun list n running all items (systematic all items) (systematic (total list) (goals list n)) u p e (λ et ei. ap₂ (λ x xs. systematic x xs) et ei)

@@ -71,8 +71,7 @@ abbrev pub Whole : ℕ → List ℕ → ℕ → Option ℕ → Type 0
 Whole all holds called pend = Held all holds called pend × Ready all holds called pend
 
 -- a duel is due: i is pending and holds a, and the unit to be called holds b
-pub record Due (running : Bool) (all : ℕ) (holds : List ℕ) (called : ℕ) (pend : Option ℕ) (i a b : ℕ) : Type 0 where
-  pub runs_now : running ≡ true
+pub record Due (holds : List ℕ) (called : ℕ) (pend : Option ℕ) (i a b : ℕ) : Type 0 where
   pub pends : pend ≡ Some i
   pub more : called < length holds
   pub a_is : a ≡ slice_index holds i

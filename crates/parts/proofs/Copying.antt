@@ -1,12 +1,14 @@
 -- What is copied out of the design below.
-use Rattle.std.proofs.Common.{◌≡◌, ℕ, ◌+◌, ◌-◌, ◌<◌, ◌≤◌, Bool, true, false, cond, ◌&&◌, T, ltb, ◌≢◌, ◌⊎◌, List, length, get_or, set, Ok, sym, refl, ap, ◌∙◌, subst, ap₂, inl, inr, arith, le-ltb, lt-ltb, le-leb}
+use Rattle.std.proofs.Common.{◌≡◌, ℕ, ◌+◌, ◌-◌, ◌<◌, ◌≤◌, Bool, true, false, cond, ◌&&◌, T, ltb, ◌⊎◌, List, get_or, Ok, Err, Result, sym, refl, ap, ◌∙◌, subst, ap₂, inl, inr, arith, le-ltb, lt-ltb, le-leb}
 use borrow.Author.Tests.{lt-leb}
-use Rattle.std.proofs.lemmas.List.{get_or-set_same, get_or-set_other}
+use Rattle.std.specs.Result.{result_unwrap_or}
 use Rattle.std.proofs.lemmas.Bool.{cases_lt}
 use Rattle.outcomes.specs.Trees.{Tree, finished, branching, Sample, HasWays, Always, ways}
 use Rattle.outcomes.proofs.Trees.{average_one}
 use Rattle.design.specs.Design.{Plan, refuses, accepts, Standing, no_run, in_run, Shared, Taken}
-use Rattle.parts.specs.Series.{numerator_of, denominator_of}
+use Rattle.design.specs.declared.fault.Fault.{Fault}
+use Rattle.design.specs.declared.fraction.Fraction.{Fraction}
+use Rattle.parts.specs.Series.{fraction, share_of}
 use Rattle.parts.specs.Copying.{outcome_in, outcome_of, Over, Fresh, written}
 
 -- ---- answers of the design below
@@ -20,7 +22,7 @@ same true false p q = absurd (p tt)
 same false true p q = absurd (q tt)
 same false false p q = refl
 
-pub flag_is : (st : Standing) (k n : ℕ) (b : Bool) → Taken st k (Ok b) → Over st n → k < n → b ≡ outcome_of st k
+flag_is : (st : Standing) (k n : ℕ) (b : Bool) → Taken st k (Ok b) → Over st n → k < n → b ≡ outcome_of st k
 flag_is no_run k n b t o l = absurd o
 flag_is (in_run r) k n b t o l = by r.tree o.1 o.2 t.1.0 t.1.1
   where
@@ -28,11 +30,23 @@ flag_is (in_run r) k n b t o l = by r.tree o.1 o.2 t.1.0 t.1.1
     by (finished u) s e p q = same b (u k) p q
     by (branching m sub) s e p q = absurd (omega (arith, s.0, e))
 
-pub share_is : (a : Plan) (st : Standing) (k n : ℕ) (s : ℕ × ℕ) → Shared st k (Ok s) → Fresh a st n → k < n → s ≡ (numerator_of a k, denominator_of a k)
+pub flag_found : (st : Standing) (k n : ℕ) (r : Result Bool Fault) (d : Bool) → Taken st k r → Over st n → k < n → result_unwrap_or r d ≡ outcome_of st k
+flag_found st k n (Ok b) d t o l = flag_is st k n b t o l
+flag_found no_run k n (Err e) d t o l = absurd o
+flag_found (in_run r) k n (Err e) d t o l = absurd (omega (arith, t.0, o.0))
+
+share_is : (a : Plan) (st : Standing) (k n : ℕ) (s : Fraction) → Shared st k (Ok s) → Fresh a st n → k < n → s ≡ share_of a k
 share_is (refuses f) st k n s h w l = absurd w
 share_is (accepts num run) st k n s h w l =
     let g : Shared (in_run run) k (Ok s) = subst (λ (x : Standing). Shared x k (Ok s)) w.0 h in
-    ap₂ (λ (x y : ℕ). (x, y)) (average_one (λ u. cond (u k) 1 0) s.0 (num k) (run.denominator k) run.tree w.2 g.1.1 (w.3 k l)) g.1.0
+    ap₂ fraction (average_one (λ u. cond (u k) 1 0) s.numerator (num k) (run.denominator k) run.tree w.2 g.1.1 (w.3 k l)) g.1.0
+
+pub share_found : (a : Plan) (st : Standing) (k n : ℕ) (r : Result Fraction Fault) (d : Fraction) → Shared st k r → Fresh a st n → k < n → result_unwrap_or r d ≡ share_of a k
+share_found a st k n (Ok s) d h w l = share_is a st k n s h w l
+share_found (refuses f) st k n (Err e) d h w l = absurd w
+share_found (accepts num run) st k n (Err e) d h w l =
+    let g : Shared (in_run run) k (Err e) = subst (λ (x : Standing). Shared x k (Err e)) w.0 h in
+    absurd (omega (arith, g.0, w.1))
 
 -- ---- values written in their places
 module _ {X : Type 0} (f : ℕ → X) where
@@ -49,28 +63,17 @@ module _ {X : Type 0} (f : ℕ → X) where
       by (inl l) = written_before a b k w l
       by (inr l) = ap (λ t. cond t (w (k - a)) (f k)) (ap₂ ◌&&◌ (le-leb a k l) (le-ltb k b m))
 
-  pub written_none : (a k : ℕ) (w : ℕ → X) → f k ≡ written f a a w k
-  written_none a k w = by (cases_lt k a)
-    where
-      by : (k < a) ⊎ (a ≤ k) → f k ≡ written f a a w k
-      by (inl l) = sym (written_before a a k w l)
-      by (inr l) = sym (written_past a a k w l)
+-- a list in which those places are w, and all others are as before
+pub written_by : {X : Type 0} (d : X) (xs ys : List X) (a b : ℕ) (w : ℕ → X) → ((k : ℕ) → k < b - a → get_or ys (a + k) d ≡ w k)
+    → ((k : ℕ) → (k < a) ⊎ (b ≤ k) → get_or ys k d ≡ get_or xs k d) → (k : ℕ) → get_or ys k d ≡ written (λ i. get_or xs i d) a b w k
+written_by {X} d xs ys a b w here rest k = by (cases_lt k a) (cases_lt k b)
+  where
+    f : ℕ → X
+    f i = get_or xs i d
 
-  -- one more value
-  pub written_more : (d : X) (xs : List X) (a i : ℕ) (w : ℕ → X) (x : X) → a ≤ i → i < length xs → x ≡ w (i - a)
-      → ((k : ℕ) → get_or xs k d ≡ written f a i w k) → (k : ℕ) → get_or (set xs i x) k d ≡ written f a (i + 1) w k
-  written_more d xs a i w x l m is inv k = by (cases_lt k i) (cases_lt k a) (cases_lt k (i + 1))
-    where
-      by : (k < i) ⊎ (i ≤ k) → (k < a) ⊎ (a ≤ k) → (k < i + 1) ⊎ (i + 1 ≤ k) → get_or (set xs i x) k d ≡ written f a (i + 1) w k
-      by (inl p) (inl q) z =
-          let ne : k ≢ i = omega arith in
-          get_or-set_other xs i k x d ne ∙ inv k ∙ written_before a i k w q ∙ sym (written_before a (i + 1) k w q)
-      by (inl p) (inr q) z =
-          let ne : k ≢ i = omega arith in
-          get_or-set_other xs i k x d ne ∙ inv k ∙ written_in a i k w q p ∙ sym (written_in a (i + 1) k w q (omega arith))
-      by (inr p) q (inl z) =
-          let e : k ≡ i = omega arith in
-          ap (λ n. get_or (set xs i x) n d) e ∙ get_or-set_same xs i x d m ∙ is ∙ ap (λ n. w (n - a)) (sym e) ∙ sym (written_in a (i + 1) k w (omega arith) z)
-      by (inr p) q (inr z) =
-          let ne : k ≢ i = omega arith in
-          get_or-set_other xs i k x d ne ∙ inv k ∙ written_past a i k w p ∙ sym (written_past a (i + 1) k w z)
+    by : (k < a) ⊎ (a ≤ k) → (k < b) ⊎ (b ≤ k) → get_or ys k d ≡ written f a b w k
+    by (inl l) m = rest k (inl l) ∙ sym (written_before f a b k w l)
+    by (inr l) (inl m) =
+        let e : k ≡ a + (k - a) = omega arith in
+        ap (λ n. get_or ys n d) e ∙ here (k - a) (omega arith) ∙ sym (written_in f a b k w l m)
+    by (inr l) (inr m) = rest k (inr m) ∙ sym (written_past f a b k w m)

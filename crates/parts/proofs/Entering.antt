@@ -66,7 +66,7 @@ moved (Err f) S now old e s q = absurd (false≢true e)
 module _ (B : Plans) (law : (list : List Row) (n : ℕ) → SoundPlan list (B list n)) (v : Tables) (L : Loaded B v) (flags : length v.taken ≡ length v.rows)
     (all : length v.chosen + 1 ≡ length v.bounds) (from j : ℕ) (N : NextChosen v.chosen from j) (none : NoneFrom v (first_row_of v from)) where
   loaded : Loaded B (at_stage v j)
-  loaded = record { rising = L.rising; accepted = L.accepted; nums_are = L.nums_are; dens_are = L.dens_are }
+  loaded = record { rising = L.rising; accepted = L.accepted; shares_are = L.shares_are }
 
   next_is : chosen (is_chosen v) from (drop from (all_parts v)) ≡ chosen (is_chosen v) j (drop j (all_parts v))
   next_is = skip (is_chosen v) (all_parts v) from j N.low N.passed
@@ -139,7 +139,7 @@ pub noted : (B : Plans) (v : Tables) (I : Type 0) (taken : List Bool) (r : Run) 
 noted B v I taken r U more over flags =
     let W : Within B v r = (subst (λ b. Present b I B v (in_run r)) has U.present).1 in
     record {
-      loaded = record { rising = U.loaded.rising; accepted = U.loaded.accepted; nums_are = U.loaded.nums_are; dens_are = U.loaded.dens_are };
+      loaded = record { rising = U.loaded.rising; accepted = U.loaded.accepted; shares_are = U.loaded.shares_are };
       none = λ k l. flags k ∙ written_past (so_far v) (first_row_of v v.stage) (first_row_of v (v.stage + 1)) k (outcome_in r.tree) l
           ∙ W.none_ahead k (omega (arith, (bounded v U.loaded.rising v.stage more).0));
       stands =

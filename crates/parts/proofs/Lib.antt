@@ -12,3 +12,4 @@ pub mod Copying
 pub mod Entering
 pub mod Stepping
 pub mod Trying
+pub mod Totals

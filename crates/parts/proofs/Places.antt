@@ -54,11 +54,6 @@ pub rising_zero : (bs : List ℕ) (e : ℕ) → Rising bs e → (get_or bs 0 0 �
 rising_zero [] e h = absurd h
 rising_zero (a ∷ bs) e h = (h.0, omega arith)
 
-pub rising_two : (bs : List ℕ) (e : ℕ) → Rising bs e → 0 < e → 1 < length bs
-rising_two [] e h l = absurd h
-rising_two (a ∷ []) e h l = absurd (omega (arith, h.0, h.1))
-rising_two (a ∷ b ∷ bs) e h l = omega arith
-
 -- bounds rise in one way only, so that a struct's invariant can be taken out
 steps_one : (a : ℕ) (bs : List ℕ) (e : ℕ) → IsProp (Steps a bs e)
 steps_one a [] e = hlevel props

@@ -1,6 +1,7 @@
 -- The parts of a list by their places, and the part of a unit.
-use Rattle.std.proofs.Common.{◌≡◌, ℕ, suc, ◌+◌, ◌-◌, ◌<◌, ◌≤◌, true, cond, ◌⊎◌, List, ◌∷◌, length, get_or, drop, sym, ap, ◌∙◌, ap₂, inl, inr, arith}
-use Rattle.std.proofs.lemmas.Bool.{cases_lt}
+use Rattle.std.proofs.Common.{◌≡◌, ℕ, zero, suc, ◌+◌, ◌-◌, ◌<◌, ◌≤◌, true, cond, ◌⊎◌, List, ◌∷◌, length, get_or, drop, sym, ap, ◌∙◌, ap₂, subst, inl, inr, add-one, arith, leb, le-leb}
+use Rattle.std.proofs.lemmas.Bool.{cases_lt, leb-true}
+use Rattle.std.proofs.lemmas.List.{get_or_default}
 use Rattle.parts.specs.Parts.{Part, holds, place_of}
 use Rattle.parts.specs.Series.{per_unit}
 use Rattle.parts.specs.Bounds.{Chain, Apart, Rising}
@@ -8,28 +9,33 @@ use Rattle.parts.specs.Seats.{Seated}
 use Rattle.parts.specs.Running.{Tables, sample_of, all_parts, first_row_of, part_at}
 use Rattle.parts.proofs.Holds.{holds_in}
 use Rattle.parts.proofs.Cuts.{part_length, chain_cut, chain_apart}
-use Rattle.parts.proofs.Places.{rising_at, rising_last, rising_zero, rising_two, cut_split}
+use Rattle.parts.proofs.Places.{rising_at, rising_last, rising_mono, rising_zero, cut_split}
 use Rattle.parts.proofs.Splits.{apart_split, units_split}
 
--- the search for the part of the row k stops at part j
-pub seat_found : (bs : List ℕ) (e k j : ℕ) → Rising bs e → k < e → (0 < j → get_or bs j 0 ≤ k) → (0 < j → j + 1 < length bs)
-    → (length bs ≤ j + 2) ⊎ (k < get_or bs (j + 1) 0) → Seated bs k j
-seat_found bs e k j rise l low place stop =
-    let some = rising_two bs e rise (omega arith) in
-    let here : j + 1 < length bs = at (cases_lt 0 j) some in
-    record { place = here; low = from (cases_lt 0 j); high = up here stop }
+-- the row k lies in the part of the last bound that is at most k, where j bounds are, and the others are larger
+pub seat_found : (bs : List ℕ) (e k j : ℕ) → Rising bs e → k < e → ((i : ℕ) → i < j → get_or bs i 0 ≤ k) → (j < length bs → k < get_or bs j 0) → j ≤ length bs
+    → Seated bs k (j - 1)
+seat_found bs e k zero rise l low high most = absurd (omega (arith, rising_zero bs e rise, high (rising_zero bs e rise).1))
+seat_found bs e k (suc i) rise l low high most = by (cases_lt (suc i) (length bs))
   where
-    at : (0 < j) ⊎ (j ≤ 0) → 1 < length bs → j + 1 < length bs
-    at (inl p) some = place p
-    at (inr p) some = omega arith
+    same : suc i - 1 ≡ i
+    same = omega arith
 
-    from : (0 < j) ⊎ (j ≤ 0) → get_or bs j 0 ≤ k
-    from (inl p) = low p
-    from (inr p) = let z : j ≡ 0 = omega arith in omega (arith, ap (λ i. get_or bs i 0) z, (rising_zero bs e rise).0)
+    by : (suc i < length bs) ⊎ (length bs ≤ suc i) → Seated bs k (suc i - 1)
+    by (inl m) = rw same (record { place = omega arith; low = low i (omega arith); high = subst (λ n. k < get_or bs n 0) (sym (add-one i)) (high m) })
+    by (inr m) = absurd (omega (arith, rising_last bs e i rise (omega arith) (omega arith), low i (omega arith)))
 
-    up : j + 1 < length bs → (length bs ≤ j + 2) ⊎ (k < get_or bs (j + 1) 0) → k < get_or bs (j + 1) 0
-    up here (inl p) = omega (arith, rising_last bs e (j + 1) rise here (omega arith))
-    up here (inr p) = p
+-- the bounds that are at most k come before the others
+pub bounds_parted : (bs : List ℕ) (e k i j d : ℕ) → Rising bs e → i ≤ j → j < length bs → leb (get_or bs j d) k ≡ true → leb (get_or bs i d) k ≡ true
+bounds_parted bs e k i j d rise l m t =
+    le-leb (get_or bs i d) k
+    (omega (
+      arith,
+      leb-true (get_or bs j d) k t,
+      get_or_default bs i d 0 (omega arith),
+      get_or_default bs j d 0 m,
+      rising_mono bs e i j rise l m,
+    ))
 
 module _ (v : Tables) (rise : Rising v.bounds (length v.rows)) where
   pub chain : Chain 0 (all_parts v) (length v.rows)

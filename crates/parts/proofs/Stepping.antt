@@ -4,11 +4,11 @@ use native.Mathlib.Decide.{ℕ_discrete}
 use Rattle.std.proofs.lemmas.List.{get_or_past}
 use Rattle.std.proofs.lemmas.Bool.{cases_lt}
 use Rattle.outcomes.specs.Trees.{Tree, finished, branching, Sample, Average, Lawful, ways, subtree, bind}
-use Rattle.design.specs.Faults.{numbered, refusal}
-use Rattle.design.specs.Design.{Run, Standing, no_run, in_run, Stepped, Shared, SoundPlan, SoundStanding, ways_of, below}
+use Rattle.design.specs.Design.{Run, Standing, no_run, in_run, Shared, SoundPlan, SoundStanding, ways_of, below}
 use Rattle.design.specs.declared.fault.Fault.{Fault}
+use Rattle.design.specs.declared.fraction.Fraction.{Fraction}
 use Rattle.design.specs.declared.row.Row.{Row}
-use Rattle.parts.specs.Series.{Plans, plan_for, denominator_of, joined, series, resumed, denominators, numerators}
+use Rattle.parts.specs.Series.{Plans, fraction, plan_for, denominator_of, joined, series, resumed, denominators, numerators}
 use Rattle.parts.specs.Bounds.{Steps, Rising}
 use Rattle.parts.specs.Seats.{Seated}
 use Rattle.parts.specs.Running.{Tables, all_parts, first_row_of, part_at, is_chosen, so_far, ahead, run_over, has_present, standing_by, standing_of, Within, Present, Underway, Settled, Intact}
@@ -90,18 +90,6 @@ stepped_down I I' B v st st' d U has i l e = by st U (subst (λ b. Present b I B
               ∙ sym (ap (λ b. below (standing_by b B v (in_run r)) d) has),
         )
 
--- a refused step, in the words of the series
-pub step_refused : (U V : Type 0) (I : Type 0) (B : Plans) (v : Tables) (st st' : Standing) (d : ℕ) (e : Fault) → Intact I B v st → has_present v ≡ true → Stepped {U = U} st d (Err e) st'
-    → (st' ≡ st) × Stepped {U = V} (standing_of B v st) d (Err e) (standing_of B v st')
-step_refused U V I B v st st' d e h has s =
-    let same : ways_of (standing_of B v st) ≡ ways_of st = ways_are I B v st h ∙ ap (λ b. cond b (ways_of st) 0) has in (
-      s.0,
-      (
-        ap (λ (z : Standing). standing_of B v z) s.0,
-        subst (λ w. ((w ≡ 0) × (numbered e ≡ refusal 17)) ⊎ ((0 < w) × (w ≤ d) × (numbered e ≡ refusal 18))) (sym same) s.1,
-      ),
-    )
-
 -- ---- share
 module _ (B : Plans) (law : (list : List Row) (n : ℕ) → SoundPlan list (B list n)) (v : Tables) (I : Type 0) where
   module _ (k j : ℕ) (s : Seated v.bounds k j) where
@@ -110,7 +98,7 @@ module _ (B : Plans) (law : (list : List Row) (n : ℕ) → SoundPlan list (B li
     aside = cond (ltb j v.stage) (cond (so_far v k) (denominators B (all_parts v) k) 0) (cond (is_chosen v j) (numerators B (all_parts v) k) 0)
 
     pub share_aside : (st : Standing) → Underway I B v st → (j ≡ v.stage → ⊥)
-        → Shared (standing_of B v st) k (Ok (cond (ltb j v.stage) (cond (so_far v k) (denominators B (all_parts v) k) 0) (cond (is_chosen v j) (numerators B (all_parts v) k) 0), denominators B (all_parts v) k))
+        → Shared (standing_of B v st) k (Ok (fraction (cond (ltb j v.stage) (cond (so_far v k) (denominators B (all_parts v) k) 0) (cond (is_chosen v j) (numerators B (all_parts v) k) 0)) (denominators B (all_parts v) k)))
     share_aside st U other = by (cases_lt (v.stage + 1) (length v.bounds)) st U
       where
         behind : j < v.stage → (t : Tree Sample) → Average (X k) (cond (so_far v k) (denominators B (all_parts v) k) 0) (denominators B (all_parts v) k) t → Average (X k) aside (denominators B (all_parts v) k) t
@@ -127,19 +115,19 @@ module _ (B : Plans) (law : (list : List Row) (n : ℕ) → SoundPlan list (B li
             different : v.stage ≤ j → (j ≡ v.stage → ⊥) → v.stage < j
             different l ne = omega arith
 
-        by : (v.stage + 1 < length v.bounds) ⊎ (length v.bounds ≤ v.stage + 1) → (st : Standing) → Underway I B v st → Shared (standing_of B v st) k (Ok (aside, denominators B (all_parts v) k))
+        by : (v.stage + 1 < length v.bounds) ⊎ (length v.bounds ≤ v.stage + 1) → (st : Standing) → Underway I B v st → Shared (standing_of B v st) k (Ok (fraction aside (denominators B (all_parts v) k)))
         by (inl more) no_run U = absurd (subst (λ b. Present b I B v no_run) (lt-ltb (v.stage + 1) (length v.bounds) more) U.present)
         by (inl more) (in_run r) U =
-            subst (λ b. Shared (standing_by b B v (in_run r)) k (Ok (aside, denominators B (all_parts v) k))) (sym (lt-ltb (v.stage + 1) (length v.bounds) more)) (
+            subst (λ b. Shared (standing_by b B v (in_run r)) k (Ok (fraction aside (denominators B (all_parts v) k)))) (sym (lt-ltb (v.stage + 1) (length v.bounds) more)) (
               seat_row v U.loaded.rising k j s,
               (refl, now more r U (subst (λ b. Present b I B v (in_run r)) (lt-ltb (v.stage + 1) (length v.bounds) more) U.present).1 (cases_lt j v.stage)),
             )
         by (inr done) st U =
-            subst (λ b. Shared (standing_by b B v st) k (Ok (aside, denominators B (all_parts v) k))) (sym (le-ltb (v.stage + 1) (length v.bounds) done))
+            subst (λ b. Shared (standing_by b B v st) k (Ok (fraction aside (denominators B (all_parts v) k)))) (sym (le-ltb (v.stage + 1) (length v.bounds) done))
             (seat_row v U.loaded.rising k j s, (refl, behind (omega (arith, s.place)) _ (share_over B v U.loaded k (denominators B (all_parts v) k))))
 
     -- a unit of the present part has the share that the design gives it there
-    pub share_here : (st : Standing) (r : Result (ℕ × ℕ) Fault) → Underway I B v st → j ≡ v.stage → Shared st (k - first_row_of v j) r → Shared (standing_of B v st) k r
+    pub share_here : (st : Standing) (r : Result Fraction Fault) → Underway I B v st → j ≡ v.stage → Shared st (k - first_row_of v j) r → Shared (standing_of B v st) k r
     share_here st r U e h =
         let more : v.stage + 1 < length v.bounds = subst (λ i. i + 1 < length v.bounds) e s.place in
         by more st r U (subst (λ b. Present b I B v st) (lt-ltb (v.stage + 1) (length v.bounds) more) U.present) h
@@ -150,14 +138,14 @@ module _ (B : Plans) (law : (list : List Row) (n : ℕ) → SoundPlan list (B li
             let b : first_row_of v (j + 1) ≡ first_row_of v (v.stage + 1) = ap (λ i. first_row_of v (i + 1)) e in
             omega (arith, W.units_are, s.low, s.high, a, b)
 
-        by : (more : v.stage + 1 < length v.bounds) (st : Standing) (r : Result (ℕ × ℕ) Fault) → Underway I B v st → Present true I B v st → Shared st (k - first_row_of v j) r → Shared (standing_of B v st) k r
+        by : (more : v.stage + 1 < length v.bounds) (st : Standing) (r : Result Fraction Fault) → Underway I B v st → Present true I B v st → Shared st (k - first_row_of v j) r → Shared (standing_of B v st) k r
         by more no_run r U p h = absurd p
         by more (in_run q) (Err f) U p h = absurd (omega (arith, inside more q p.1, h.0))
         by more (in_run q) (Ok a) U p h =
             subst (λ b. Shared (standing_by b B v (in_run q)) k (Ok a)) (sym (lt-ltb (v.stage + 1) (length v.bounds) more))
-            (seat_row v U.loaded.rising k j s, (den a h.1.0, share_present B v U.loaded law more q p.1 k j s a.0 e h.1.1))
+            (seat_row v U.loaded.rising k j s, (den a h.1.0, share_present B v U.loaded law more q p.1 k j s a.numerator e h.1.1))
           where
-            den : (a : ℕ × ℕ) → a.1 ≡ q.denominator (k - first_row_of v j) → a.1 ≡ denominators B (all_parts v) k
+            den : (a : Fraction) → a.denominator ≡ q.denominator (k - first_row_of v j) → a.denominator ≡ denominators B (all_parts v) k
             den a is =
                 is ∙ p.1.denominator_is (k - first_row_of v j) ∙ ap (λ i. denominator_of (plan_for B (part_at v i)) (k - first_row_of v j)) (sym e)
                 ∙ sym (seat_unit v U.loaded.rising k j s (λ p. denominator_of (plan_for B p)))
@@ -189,19 +177,19 @@ module _ (B : Plans) (law : (list : List Row) (n : ℕ) → SoundPlan list (B li
           let p = prescribed_parts B law (all_parts v) 0 (length v.rows) k (chain v U.loaded.rising) (omega arith) l U.loaded.accepted in
           (omega (arith, p.0, p.1), p.2)
 
-      exact : (st : Standing) → Underway I B v st → (I → SoundStanding st) → (k : ℕ) → k < length v.rows → (a : ℕ × ℕ) × Shared (standing_of B v st) k (Ok a)
+      exact : (st : Standing) → Underway I B v st → (I → SoundStanding st) → (k : ℕ) → k < length v.rows → (a : Fraction) × Shared (standing_of B v st) k (Ok a)
       exact st U sound k l = let g = seat_of v.bounds (length v.rows) k U.loaded.rising l in on g.0 g.1 (ℕ_discrete g.0 v.stage)
         where
-          here : (j : ℕ) → Seated v.bounds k j → j ≡ v.stage → (st : Standing) → Underway I B v st → (I → SoundStanding st) → Present true I B v st → (a : ℕ × ℕ) × Shared (standing_of B v st) k (Ok a)
+          here : (j : ℕ) → Seated v.bounds k j → j ≡ v.stage → (st : Standing) → Underway I B v st → (I → SoundStanding st) → Present true I B v st → (a : Fraction) × Shared (standing_of B v st) k (Ok a)
           here j s e no_run U sound p = absurd p
           here j s e (in_run r) U sound p =
               let inside : k - first_row_of v j < r.units = omega (arith, p.1.units_are, s.low, s.high, ap (first_row_of v) e, ap (λ i. first_row_of v (i + 1)) e) in
               let x = (sound p.0).exact (k - first_row_of v j) inside in (
-                (x.0, r.denominator (k - first_row_of v j)),
-                share_here k j s (in_run r) (Ok (x.0, r.denominator (k - first_row_of v j))) U e (inside, (refl, x.1)),
+                fraction x.0 (r.denominator (k - first_row_of v j)),
+                share_here k j s (in_run r) (Ok (fraction x.0 (r.denominator (k - first_row_of v j)))) U e (inside, (refl, x.1)),
               )
 
-          on : (j : ℕ) → Seated v.bounds k j → Dec (j ≡ v.stage) → (a : ℕ × ℕ) × Shared (standing_of B v st) k (Ok a)
+          on : (j : ℕ) → Seated v.bounds k j → Dec (j ≡ v.stage) → (a : Fraction) × Shared (standing_of B v st) k (Ok a)
           on j s (yes e) = here j s e st U sound (subst (λ b. Present b I B v st) (lt-ltb (v.stage + 1) (length v.bounds) (subst (λ i. i + 1 < length v.bounds) e s.place)) U.present)
           on j s (no ne) = (_, share_aside k j s st U ne)
 
@@ -213,12 +201,12 @@ module _ (B : Plans) (law : (list : List Row) (n : ℕ) → SoundPlan list (B li
           subst (λ b. SoundStanding (standing_by b B v (in_run r))) (sym has) (record {
             lawful = lawful_now more r U W;
             denominators = dens (in_run r) U;
-            exact = λ k l. let x = subst (λ b. (a : ℕ × ℕ) × Shared (standing_by b B v (in_run r)) k (Ok a)) has (exact (in_run r) U sound k l) in (x.0.0, x.1.1.1);
+            exact = λ k l. let x = subst (λ b. (a : Fraction) × Shared (standing_by b B v (in_run r)) k (Ok a)) has (exact (in_run r) U sound k l) in (x.0.numerator, x.1.1.1);
           })
       by (inr done) st U sound =
           let has = le-ltb (v.stage + 1) (length v.bounds) done in
           subst (λ b. SoundStanding (standing_by b B v st)) (sym has) (record {
             lawful = flagged U.flags;
             denominators = dens st U;
-            exact = λ k l. let x = subst (λ b. (a : ℕ × ℕ) × Shared (standing_by b B v st) k (Ok a)) has (exact st U sound k l) in (x.0.0, x.1.1.1);
+            exact = λ k l. let x = subst (λ b. (a : Fraction) × Shared (standing_by b B v st) k (Ok a)) has (exact st U sound k l) in (x.0.numerator, x.1.1.1);
           })

@@ -3,19 +3,19 @@ use Rattle.std.specs.Prelude.{◌≡◌, ℕ, ◌+◌, ◌-◌, ◌<◌, ◌≤�
 use Rattle.outcomes.specs.Trees.{Tree, finished, Sample, Lawful}
 use Rattle.design.specs.Design.{Run, Standing, no_run, in_run, ways_of}
 use Rattle.design.specs.declared.fault.Fault.{Fault}
+use Rattle.design.specs.declared.fraction.Fraction.{Fraction}
 use Rattle.design.specs.declared.row.Row.{Row}
 use Rattle.parts.specs.Parts.{Part, cut}
-use Rattle.parts.specs.Series.{Plans, plan_for, denominator_of, series, resumed, chosen, numerators, denominators}
+use Rattle.parts.specs.Series.{Plans, fraction, plan_for, denominator_of, series, resumed, chosen, denominators, prescribed}
 use Rattle.parts.specs.Bounds.{AllAccepted, Rising}
 
--- the rows of the list, the first rows of its parts with the row past the list, each part's sample size, each unit's prescribed numbers,
+-- the rows of the list, the first rows of its parts with the row past the list, each part's sample size, each unit's prescribed share,
 -- which parts are chosen, which units of the parts behind are taken, and the number of the present part
 pub record Tables : Type 0 where
   pub rows : List Row
   pub bounds : List ℕ
   pub samples : List ℕ
-  pub nums : List ℕ
-  pub dens : List ℕ
+  pub shares : List Fraction
   pub chosen : List Bool
   pub taken : List Bool
   pub stage : ℕ
@@ -35,6 +35,13 @@ part_at v j = record { at = first_row_of v j; rows = take (first_row_of v (j + 1
 
 abbrev pub is_chosen : Tables → Sample
 is_chosen v j = slice_index_or v.chosen j false
+
+-- the prescribed share of the unit k
+abbrev pub no_share : Fraction
+no_share = fraction 0 0
+
+abbrev pub share_at : Tables → ℕ → Fraction
+share_at v k = slice_index_or v.shares k no_share
 
 -- the taken units of the parts behind
 abbrev pub so_far : Tables → Sample
@@ -78,8 +85,7 @@ at_stage v j = record {
   rows = v.rows;
   bounds = v.bounds;
   samples = v.samples;
-  nums = v.nums;
-  dens = v.dens;
+  shares = v.shares;
   chosen = v.chosen;
   taken = v.taken;
   stage = j;
@@ -90,8 +96,7 @@ with_taken v taken = record {
   rows = v.rows;
   bounds = v.bounds;
   samples = v.samples;
-  nums = v.nums;
-  dens = v.dens;
+  shares = v.shares;
   chosen = v.chosen;
   taken = taken;
   stage = v.stage;
@@ -103,12 +108,11 @@ Moved (Ok x) S st old = S × (st ≡ old)
 Moved (Err e) S st old = ⊥
 
 -- ---- what belongs together
--- the design accepts every part, and the prescribed numbers are there
+-- the design accepts every part, and the prescribed shares are there
 pub record Loaded (B : Plans) (v : Tables) : Type 0 where
   pub rising : Rising v.bounds (length v.rows)
   pub accepted : AllAccepted B (all_parts v)
-  pub nums_are : (k : ℕ) → k < length v.rows → slice_index v.nums k ≡ numerators B (all_parts v) k
-  pub dens_are : (k : ℕ) → k < length v.rows → slice_index v.dens k ≡ denominators B (all_parts v) k
+  pub shares_are : (k : ℕ) → k < length v.rows → share_at v k ≡ prescribed B (all_parts v) k
 
 -- no unit from the row a on is taken yet
 abbrev pub NoneFrom : Tables → ℕ → Type 0

@@ -3,6 +3,7 @@ use Rattle.std.specs.Prelude.{ℕ, suc, ◌+◌, ◌-◌, min, false, cond, List
 use Rattle.outcomes.specs.Trees.{Tree, finished, Sample, bind}
 use Rattle.design.specs.Faults.{Refusal}
 use Rattle.design.specs.Design.{Plan, refuses, accepts}
+use Rattle.design.specs.declared.fraction.Fraction.{Fraction}
 use Rattle.design.specs.declared.row.Row.{Row}
 use Rattle.parts.specs.Parts.{Part, holds}
 
@@ -25,6 +26,14 @@ numerator_of (accepts num run) k = num k
 abbrev pub denominator_of : Plan → ℕ → ℕ
 denominator_of (refuses f) k = 0
 denominator_of (accepts num run) k = run.denominator k
+
+-- num parts of a whole of den parts
+abbrev pub fraction : ℕ → ℕ → Fraction
+fraction num den = record { numerator = num; denominator = den }
+
+-- the prescribed share of a unit, of a plan that accepts
+abbrev pub share_of : Plan → ℕ → Fraction
+share_of a k = fraction (numerator_of a k) (denominator_of a k)
 
 -- what the design does with a part
 abbrev pub plan_for : Plans → Part → Plan
@@ -59,6 +68,9 @@ numerators B ps = per_unit (λ p. numerator_of (plan_for B p)) ps
 
 abbrev pub denominators : Plans → List Part → ℕ → ℕ
 denominators B ps = per_unit (λ p. denominator_of (plan_for B p)) ps
+
+abbrev pub prescribed : Plans → List Part → ℕ → Fraction
+prescribed B ps k = fraction (numerators B ps k) (denominators B ps k)
 
 -- a refusal from below, of a part whose first row is `at`: that row added, and 1 to the depth, up to 255
 abbrev pub raised : ℕ → Refusal → Refusal

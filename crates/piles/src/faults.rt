@@ -1,8 +1,8 @@
 #[cfg(test)]
 mod tests {
-    use crate::row;
     use design::design::Design;
     use design::fault::{Fault, Reason};
+    use design::row::Row;
     use pivotal::Pivotal;
     use std::test::Fail;
     use stratified::Stratified;
@@ -24,11 +24,11 @@ mod tests {
         let stages = TwoStage::new(rt.alloc(), first, Systematic::new(rt.alloc())?)?;
         let mut pile = Stratified::new(rt.alloc(), stages)?;
         let list = [
-            row(1, 0, 1),
-            row(2, 0, 1),
-            row(2, 0, 1),
-            row(2, 5, 1),
-            row(2, 5, 9),
+            Row::new(1, 0, 1),
+            Row::new(2, 0, 1),
+            Row::new(2, 0, 1),
+            Row::new(2, 5, 1),
+            Row::new(2, 5, 9),
         ];
         assert_eq!(rt; pile.begin(&list, 2), Err(Fault::of(Reason::NothingSet)));
         assert_eq!(rt; pile.allot(&[1, 2]), Ok(()));
@@ -48,23 +48,23 @@ mod tests {
         let mut pile = Stratified::new(rt.alloc(), stages)?;
         assert_eq!(rt; pile.allot(&[2, 4]), Ok(()));
         let first = [
-            row(1, 0, 1),
-            row(1, 0, 1),
-            row(2, 0, 1),
-            row(2, 0, 1),
-            row(2, 5, 9),
+            Row::new(1, 0, 1),
+            Row::new(1, 0, 1),
+            Row::new(2, 0, 1),
+            Row::new(2, 0, 1),
+            Row::new(2, 5, 9),
         ];
         assert_eq!(rt;
             pile.begin(&first, 6),
             passed_twice(Reason::ShareAboveOne, 4)
         );
         let second = [
-            row(1, 0, 1),
-            row(1, 0, 1),
-            row(2, 0, 5),
-            row(2, 0, 5),
-            row(2, 5, 1),
-            row(2, 5, 9),
+            Row::new(1, 0, 1),
+            Row::new(1, 0, 1),
+            Row::new(2, 0, 5),
+            Row::new(2, 0, 5),
+            Row::new(2, 5, 1),
+            Row::new(2, 5, 9),
         ];
         assert_eq!(rt;
             pile.begin(&second, 6),
@@ -78,12 +78,12 @@ mod tests {
         let mut layer = Stratified::new(rt.alloc(), Pivotal::new(rt.alloc())?)?;
         assert_eq!(rt; layer.allot(&[1, 0]), Err(Fault::of(Reason::TakeZero)));
         assert_eq!(rt; layer.allot(&[1, 1]), Ok(()));
-        let falling = [row(2, 0, 1), row(1, 0, 1)];
+        let falling = [Row::new(2, 0, 1), Row::new(1, 0, 1)];
         assert_eq!(rt;
             layer.begin(&falling, 2),
             Err(Fault::at(Reason::OutOfOrder, 1))
         );
-        let rising = [row(1, 0, 1), row(2, 0, 1)];
+        let rising = [Row::new(1, 0, 1), Row::new(2, 0, 1)];
         assert_eq!(rt;
             layer.begin(&rising, 3),
             Err(Fault::of(Reason::TakesNotSample))

@@ -3,137 +3,116 @@
 
 mod duel;
 
-ghost use Rattle.std.specs.Prelude.{◌≡◌, true, false, IfOk};
-ghost use Rattle.methods.specs.Pivotal.{pivotal_plan};
-ghost use Rattle.pivotal.specs.Duels.{tree_of, HeldIn, ReadyIn, WholeIn, DueDuel};
-ghost use Rattle.plain.specs.Of.{runs, stands_at, whole, held};
-ghost use Rattle.methods.proofs.PivotalCalls.{pivotal_sound};
-ghost use Rattle.methods.specs.PivotalRuns.{pivotal_tree};
-ghost use Rattle.methods.proofs.Holdings.{sound_held};
+ghost use Rattle.std.specs.Prelude.{◌≡◌, ◌≤◌, false, length};
+ghost use Rattle.methods.specs.Pivotal.{nobody, pivotal, pivotal_plan};
+ghost use Rattle.methods.proofs.PivotalCalls.{pivotal_sound, whole_once};
 ghost use Rattle.methods.proofs.Pivotals.{fair, lawful};
-ghost use Rattle.methods.proofs.PivotalCalls;
+ghost use Rattle.pivotal.specs.Duels.{tree_of, HeldIn, WholeIn, DueDuel, NextShort};
+ghost use Rattle.plain.specs.Of.{whole, held};
 
 use design::design::Design;
-use design::fault::{Fault, Reason};
-use design::row::Row;
 use duel::{Duel, keeper};
+use plain::Plain;
 use plain::holdings::Holdings;
-use std::alloc::{AllocError, Global};
+use plain::method::Method;
 
 /// Ordered pivotal drawing: each called unit duels with the one that is pending.
-#[derive(Drop)]
-pub struct Pivotal {
-    units: Holdings,
+pub type Pivotal = Plain<Duels>;
+
+/// The method of ordered pivotal drawing.
+#[derive(Clone, Copy, Default)]
+pub struct Duels {
     // How many units have been called. While any are left, the next one has to duel.
     called: usize,
     pending: Option<usize>,
-    ghost holding: { ∥ (runs units ≡ true → WholeIn units called pending) ∥₁ },
 }
 
-// Calls units until one has to duel, or all have been called: how many have been called then, and who is pending.
-fn next_duel(units: &Holdings, called: usize, pending: Option<usize>) -> (usize, Option<usize>)
-    requires { HeldIn units.now called pending }
-    ensures held { HeldIn units.now result.0 result.1 }
-    ensures ready { ReadyIn units.now result.0 result.1 }
-    ensures same { tree_of units.now result.0 result.1 ≡ tree_of units.now called pending }
+// The first of the units from this one on that does not hold the total, and the number of units where each does.
+fn next_short(units: &Holdings, from: usize) -> usize
+    requires { from ≤ length (held units.now) }
+    ensures { NextShort units.now from result }
 {
-    let mut waiting = pending;
-    for at in called..units.units() {
-        if units.get(at) != units.total() {
-            if waiting.is_some() {
-                return (at, waiting);
-            }
-            waiting = Some(at);
-        }
-    }
-    (units.units(), waiting)
+    let end = units.units();
+    (from..end)
+        .find(|k| units.get(*k) != units.total())
+        .unwrap_or(end)
 }
 
-impl Pivotal {
-    /// A design with no run, and room for every list that begin accepts, so that no later call needs memory.
-    pub fn new(heap: Global) -> Result<Self, AllocError>
-        ensures { IfOk result (λ s. runs s.units ≡ false) }
+impl Duels {
+    // Calls units until one has to duel, or all have been called.
+    fn call(self, units: &Holdings) -> Self
+        requires { HeldIn units.now self }
+        ensures kept { WholeIn units.now result }
+        ensures same { tree_of units.now result ≡ tree_of units.now self }
     {
-        let units = Holdings::new(heap)?;
-        Ok(Pivotal {
-            units,
-            called: 0,
-            pending: None,
-        })
+        let called = next_short(units, self.called);
+        if self.pending.is_some() || called == units.units() {
+            return Duels { called, ..self };
+        }
+        Duels {
+            called: next_short(units, called + 1),
+            pending: Some(called),
+        }
     }
 
     // The duel that is due, if one is.
-    fn duel(&self) -> Option<Duel>
-        ensures { DueDuel self.now.units self.now.called self.now.pending result }
+    fn duel(&self, units: &Holdings) -> Option<Duel>
+        requires { WholeIn units.now self.now }
+        ensures { DueDuel units.now self.now result }
     {
-        if !self.units.is_running() || self.called >= self.units.units() {
+        if self.called >= units.units() {
             return None;
         }
-        match self.pending {
-            Some(pending) => Some(Duel {
-                pending,
-                a: self.units.get(pending),
-                b: self.units.get(self.called),
-                total: self.units.total(),
-            }),
-            None => None,
-        }
+        let pending = self.pending?;
+        Some(Duel {
+            pending,
+            a: units.get(pending),
+            b: units.get(self.called),
+            total: units.total(),
+        })
     }
 }
 
-impl Design for Pivotal {
-    ghost plan = { λ _. pivotal_plan };
+impl Method for Duels {
+    ghost begun = { λ all goals. pivotal all goals 0 nobody (λ _. false) };
 
-    ghost tree = { λ s. stands_at s.units (tree_of s.units s.called s.pending) };
+    ghost tree = { λ m u. tree_of u m };
 
-    ghost intact = { λ _. Unit {0} };
+    ghost kept = { λ m u. WholeIn u m };
 
-    ghost sound = { λ s list n. pivotal_sound list n };
+    ghost sound = { pivotal_sound };
 
-    ghost exact = { λ s i.
-        let all = whole s.units in
-        let holds = held s.units in
-        let h = PivotalCalls.holding all holds s.called s.pending (runs s.units) s.holding in
-        sound_held (runs s.units) all holds (pivotal_tree all holds s.called s.pending)
-        (λ e. ((h e).0.0, (h e).0.1)) (λ e. lawful all holds s.called s.pending (h e).0) (λ e k l. fair all holds s.called s.pending k (h e).0 l) };
+    ghost exact = { λ m u h. record {
+      some = h.0.0;
+      within = h.0.1;
+      lawful = lawful (whole u) (held u) m.called m.pending h.0;
+      shares = λ k l. fair (whole u) (held u) m.called m.pending k h.0 l;
+    } };
 
-    fn begin(&mut self, list: &[Row], n: u32) -> Result<(), Fault> {
-        self.units.begin(list, n)?;
-        let (called, pending) = next_duel(&self.units, 0, None);
-        self.called = called;
-        self.pending = pending;
-        Ok(())
+    ghost kept_once = { λ m u. whole_once (whole u) (held u) m.called m.pending };
+
+    fn start(units: &Holdings) -> Self {
+        Duels::default().call(units)
     }
 
-    fn ways(&self) -> u32 {
-        match self.duel() {
-            Some(duel) => duel.ways(),
-            None => 0,
-        }
+    fn ways(&self, units: &Holdings) -> u32 {
+        self.duel(units).map_or(0, |duel| duel.ways())
     }
 
-    fn step(&mut self, d: u32) -> Result<(), Fault> {
-        let Some(duel) = self.duel() else {
-            return Err(Fault::of(Reason::NoWays));
-        };
-        if d >= duel.ways() {
-            return Err(Fault::of(Reason::NoSuchThrow));
-        }
+    fn settle(&mut self, units: &mut Holdings, d: u32) {
+        // A throw below the ways has its duel.
+        let duel = self.duel(units).unwrap();
         let j = self.called;
         let (x, y) = duel.left(d);
-        self.units.set(duel.pending, x);
-        self.units.set(j, y);
-        let (called, pending) = next_duel(
-            &self.units,
-            j + 1,
-            keeper(duel.pending, j, x, y, duel.total),
-        );
-        self.called = called;
-        self.pending = pending;
-        Ok(())
-    }
-
-    fn share(&self, k: u32) -> Result<(u64, u64), Fault> {
-        self.units.share(k)
+        units.set(duel.pending, x);
+        units.set(j, y);
+        self.called += 1;
+        self.pending = keeper(duel.pending, j, x, y, duel.total);
+        *self = self.call(units);
     }
 }
+
+/// The plan of each list is that of ordered pivotal drawing, in any state of the design.
+pub fn plan_is_pivotal(design: &Pivotal)
+    ensures { ⟦<Pivotal as Design>⟧.plan design.now ≡ pivotal_plan }
+{}

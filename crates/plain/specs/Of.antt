@@ -1,5 +1,5 @@
 -- What the fields of Holdings stand for.
-use Rattle.std.specs.Prelude.{◌≡◌, ℕ, Bool, true, List, vec_items}
+use Rattle.std.specs.Prelude.{◌≡◌, ℕ, Bool, true, List, is_some, unwrap_or}
 use Rattle.outcomes.specs.Trees.{Tree, Sample}
 use Rattle.design.specs.Design.{Standing}
 use Rattle.design.specs.Lists.{total}
@@ -8,15 +8,15 @@ use Rattle.methods.specs.Holdings.{standing}
 use Rattle.methods.specs.Plain.{goals}
 use Rattle.plain.specs.declared.holdings.Holdings.{Holdings}
 
--- whether there is a run, the total, and what each unit holds of it
+-- whether there is a run, the total (0 where there is none), and what each unit holds of it
 abbrev pub runs : Holdings → Bool
-runs h = h.running
+runs h = is_some h.total
 
 abbrev pub whole : Holdings → ℕ
-whole h = h.total
+whole h = unwrap_or h.total 0
 
 abbrev pub held : Holdings → List ℕ
-held h = vec_items h.holds
+held h = h.holds
 
 -- the run that stands, where the present tree is t
 abbrev pub stands_at : Holdings → Tree Sample → Standing

@@ -1,4 +1,7 @@
-ghost use Rattle.std.specs.Prelude.{◌≤◌, vec_len, vec_capacity};
+ghost use Rattle.std.specs.Prelude.{◌≤◌, length};
+
+use bounded::BoundedVec;
+use design::check::MOST_ROWS;
 
 pub mod calls;
 
@@ -6,9 +9,9 @@ pub mod calls;
 /// unit is taken, or nothing. At any time its share is what it holds over the total.
 #[derive(Drop)]
 pub struct Holdings {
-    holds: Vec<u32>,
-    total: u32,
-    running: bool,
-    ghost room: { 1024 ≤ vec_capacity holds },
-    ghost few: { vec_len holds ≤ 1024 },
+    holds: BoundedVec<u32, MOST_ROWS>,
+    // The total, while a run stands.
+    total: Option<u32>,
+    // Said again, as what a type with a model keeps is not seen through its view.
+    ghost few: { length holds ≤ 1024 },
 }

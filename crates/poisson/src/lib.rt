@@ -1,27 +1,25 @@
 //! Poisson drawing, as code.
 #![tactic(auto)]
 
-ghost use Rattle.std.specs.Prelude.{◌≡◌, true, false, IfOk, if◌then◌else◌, nat_lt};
-ghost use Rattle.methods.specs.Poisson.{poisson_plan};
+ghost use Rattle.std.specs.Prelude.{◌≡◌, false, if◌then◌else◌, nat_lt};
+ghost use Rattle.methods.specs.Poisson.{poisson, poisson_plan};
 ghost use Rattle.methods.specs.PoissonRuns.{poisson_tree, Held};
-ghost use Rattle.plain.specs.Of.{runs, whole, held, stands_at};
-ghost use Rattle.methods.proofs.Poissons.{poisson_sound, fair, lawful};
-ghost use Rattle.methods.proofs.Holdings.{sound_held};
-ghost use Rattle.methods.proofs.Poissons;
+ghost use Rattle.methods.proofs.Poissons.{poisson_sound, fair, lawful, held_once};
+ghost use Rattle.plain.specs.Of.{whole, held};
 
 use design::design::Design;
-use design::fault::{Fault, Reason};
-use design::row::Row;
+use plain::Plain;
 use plain::holdings::Holdings;
-use std::alloc::{AllocError, Global};
+use plain::method::Method;
 
 /// Poisson drawing: a throw for each unit, which alone settles it.
-#[derive(Drop)]
-pub struct Poisson {
-    units: Holdings,
+pub type Poisson = Plain<Trials>;
+
+/// The method of Poisson drawing.
+#[derive(Clone, Copy, Default)]
+pub struct Trials {
     // How many units have had their throw.
     called: usize,
-    ghost holding: { ∥ (runs units ≡ true → Held (whole units) (held units) called) ∥₁ },
 }
 
 // What the throw leaves to a unit: all, if it is below the goal, and else nothing.
@@ -31,61 +29,44 @@ fn settled(d: u32, goal: u32, all: u32) -> u32
     if d < goal { all } else { 0 }
 }
 
-impl Poisson {
-    /// A design with no run, and room for every list that begin accepts, so that no later call needs memory.
-    pub fn new(heap: Global) -> Result<Self, AllocError>
-        ensures { IfOk result (λ s. runs s.units ≡ false) }
-    {
-        let units = Holdings::new(heap)?;
-        Ok(Poisson { units, called: 0 })
-    }
-}
+impl Method for Trials {
+    ghost begun = { λ all goals. poisson all goals 0 (λ _. false) };
 
-impl Design for Poisson {
-    ghost plan = { λ _. poisson_plan };
+    ghost tree = { λ m u. poisson_tree (whole u) (held u) m.called };
 
-    ghost tree = { λ s. stands_at s.units (poisson_tree (whole s.units) (held s.units) s.called) };
+    ghost kept = { λ m u. Held (whole u) (held u) m.called };
 
-    ghost intact = { λ _. Unit {0} };
+    ghost sound = { poisson_sound };
 
-    ghost sound = { λ s list n. poisson_sound list n };
+    ghost exact = { λ m u h. record {
+      some = h.0;
+      within = h.1;
+      lawful = lawful (whole u) (held u) m.called h;
+      shares = λ k l. fair (whole u) (held u) m.called k h l;
+    } };
 
-    ghost exact = { λ s i.
-        let all = whole s.units in
-        let holds = held s.units in
-        let h = Poissons.holding all holds s.called (runs s.units) s.holding in
-        sound_held (runs s.units) all holds (poisson_tree all holds s.called)
-        (λ e. ((h e).0, (h e).1)) (λ e. lawful all holds s.called (h e)) (λ e k l. fair all holds s.called k (h e) l) };
+    ghost kept_once = { λ m u. held_once (whole u) (held u) m.called };
 
-    fn begin(&mut self, list: &[Row], n: u32) -> Result<(), Fault> {
-        self.units.begin(list, n)?;
-        self.called = 0;
-        Ok(())
+    fn start(_units: &Holdings) -> Self {
+        Trials { called: 0 }
     }
 
-    fn ways(&self) -> u32 {
-        if self.units.is_running() && self.called < self.units.units() {
-            self.units.total()
+    fn ways(&self, units: &Holdings) -> u32 {
+        if self.called < units.units() {
+            units.total()
         } else {
             0
         }
     }
 
-    fn step(&mut self, d: u32) -> Result<(), Fault> {
-        let ways = self.ways();
-        if ways == 0 {
-            return Err(Fault::of(Reason::NoWays));
-        }
-        if d >= ways {
-            return Err(Fault::of(Reason::NoSuchThrow));
-        }
-        let goal = self.units.get(self.called);
-        self.units.set(self.called, settled(d, goal, ways));
+    fn settle(&mut self, units: &mut Holdings, d: u32) {
+        let goal = units.get(self.called);
+        units.set(self.called, settled(d, goal, units.total()));
         self.called += 1;
-        Ok(())
-    }
-
-    fn share(&self, k: u32) -> Result<(u64, u64), Fault> {
-        self.units.share(k)
     }
 }
+
+/// The plan of each list is that of Poisson drawing, in any state of the design.
+pub fn plan_is_poisson(design: &Poisson)
+    ensures { ⟦<Poisson as Design>⟧.plan design.now ≡ poisson_plan }
+{}

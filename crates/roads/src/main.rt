@@ -21,12 +21,21 @@ const MOST_ROADS: u32 = 1000;
 
 const MOST_THROWS: u32 = 2000;
 
-fn sized(size: u32) -> Row {
-    Row {
-        stratum: 0,
-        cluster: 0,
-        size,
+// Throws until the run has come to its outcome; `next` gives each throw from its ways.
+fn throw_to_the_end<D: Design, F: FnMut(u32) -> anyhow::Result<u32>>(
+    design: &mut D,
+    mut next: F,
+) -> anyhow::Result<()>
+    requires { F.IsAlwaysCallable next }
+{
+    for _ in 0..MOST_THROWS {
+        let ways = design.ways();
+        if ways == 0 {
+            break;
+        }
+        design.step(next(ways)?)?;
     }
+    Ok(())
 }
 
 // Takes the road again from its beginning, and goes on with throws of 0 to the outcome.
@@ -40,26 +49,22 @@ fn follow<D: Design>(
     for throw in road.iter() {
         design.step(throw.d)?;
     }
-    for _ in 0..MOST_THROWS {
-        let ways = design.ways();
-        if ways == 0 {
-            break;
-        }
-        design.step(0)?;
+    throw_to_the_end(design, |ways| {
         road.push(Throw { d: 0, ways })?;
-    }
-    Ok(())
+        Ok(0)
+    })
 }
 
 // The next road: the last throw that can be raised is, and those after it are left off. False where there is none.
-fn raise(road: &mut Vec<Throw>) -> bool {
+fn raise(road: &mut Vec<Throw>) -> anyhow::Result<bool> {
     while let Some(last) = road.pop() {
         let d = last.d.saturating_add(1);
         if d < last.ways {
-            return road.push(Throw { d, ways: last.ways }).is_ok();
+            road.push(Throw { d, ways: last.ways })?;
+            return Ok(true);
         }
     }
-    false
+    Ok(false)
 }
 
 fn print_units(rt: &impl Print, design: &impl Design) -> anyhow::Result<()> {
@@ -90,7 +95,7 @@ fn walk<D: Design>(
             print!(rt; " {d}/{ways}")?;
         }
         print_units(rt, design)?;
-        if !raise(&mut road) {
+        if !raise(&mut road)? {
             break;
         }
     }
@@ -109,26 +114,22 @@ fn walk_all(rt: &HostRuntime, list: &[Row], n: u32) -> anyhow::Result<()> {
 // One draw from the longest list, by the words of the generator.
 fn draw_long<D: Design>(rt: &HostRuntime, name: &str, design: &mut D) -> anyhow::Result<()> {
     let mut source = Xorshift32::new(12_345, 4000);
-    design.begin(&[sized(9999); 1024], 24)?;
+    design.begin(&[Row::sized(9999); 1024], 24)?;
     let mut throws = 0u32;
-    for _ in 0..MOST_THROWS {
-        let ways = design.ways();
-        if ways == 0 {
-            break;
-        }
-        design.step(throw(&mut source, ways)?)?;
+    throw_to_the_end(design, |ways| {
         throws = throws.saturating_add(1);
-    }
+        Ok(throw(&mut source, ways)?)
+    })?;
     print!(rt; "{name} {throws} throws")?;
     print_units(rt, design)
 }
 
 fn run(rt: &HostRuntime) -> anyhow::Result<()> {
-    walk_all(rt, &[sized(7)], 1)?;
-    walk_all(rt, &[sized(1), sized(1)], 1)?;
-    walk_all(rt, &[sized(1), sized(3)], 1)?;
-    walk_all(rt, &[sized(3), sized(3)], 2)?;
-    walk_all(rt, &[sized(1), sized(2), sized(1)], 2)?;
+    walk_all(rt, &[Row::sized(7)], 1)?;
+    walk_all(rt, &[Row::sized(1), Row::sized(1)], 1)?;
+    walk_all(rt, &[Row::sized(1), Row::sized(3)], 1)?;
+    walk_all(rt, &[Row::sized(3), Row::sized(3)], 2)?;
+    walk_all(rt, &[Row::sized(1), Row::sized(2), Row::sized(1)], 2)?;
     println!(rt; "1024 rows, sample of 24")?;
     draw_long(rt, "systematic", &mut Systematic::new(rt.alloc())?)?;
     draw_long(rt, "pivotal", &mut Pivotal::new(rt.alloc())?)?;

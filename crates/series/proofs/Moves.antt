@@ -1,7 +1,11 @@
 -- From part to part of a series: what the calls below give.
-use Rattle.std.proofs.Common.{◌≡◌, ℕ, ◌+◌, ◌-◌, ◌<◌, ◌≤◌, Bool, true, false, ◌⊎◌, List, length, get_or, replicate, Ok, Err, Result, sym, refl, ap, ◌∙◌, subst, inl, inr, arith}
+use Rattle.std.proofs.Common.{◌≡◌, ℕ, ◌+◌, ◌-◌, ◌<◌, ◌≤◌, Bool, true, false, ◌⊎◌, List, length, get_or, drop, replicate, MatchOption, Some, None, Option, Ok, Err, Result, sym, refl, ap, ◌∙◌, subst, inl, inr, arith}
 use mathlib.Core.Path.{fun_ext}
-use Rattle.std.proofs.lemmas.List.{get_or_past, get_or-replicate, length-replicate}
+use Rattle.std.specs.List.{position, position_or_len}
+use Rattle.std.proofs.lemmas.Grind.{common_steps}
+use Rattle.std.proofs.lemmas.List.{get_or_past, get_or-replicate, length-replicate, get_or-drop, length-drop}
+use Rattle.std.proofs.lemmas.List.Quantifiers.{position-Some}
+use Rattle.std.proofs.lemmas.List.Sums.{fails_before_first}
 use Rattle.std.proofs.lemmas.Bool.{cases_lt, lt-ltb}
 use Rattle.outcomes.specs.Trees.{Sample}
 use Rattle.outcomes.proofs.Trees.{lawful_ways}
@@ -19,24 +23,23 @@ moved_trans (Ok u) S now mid old m e = (m.0, m.1 ∙ e)
 moved_trans (Err f) S now mid old m e = m
 
 pub stage_kept : (v : Tables) (j : ℕ) → SameList v (at_stage v j)
-stage_kept v j = record { rows = refl; bounds = refl; samples = refl; nums = refl; dens = refl; chosen = refl }
+stage_kept v j = record { rows = refl; bounds = refl; samples = refl; shares = refl; chosen = refl }
 
 pub same_trans : (u v w : Tables) → SameList u v → SameList v w → SameList u w
 same_trans u v w a b = record {
   rows = b.rows ∙ a.rows;
   bounds = b.bounds ∙ a.bounds;
   samples = b.samples ∙ a.samples;
-  nums = b.nums ∙ a.nums;
-  dens = b.dens ∙ a.dens;
+  shares = b.shares ∙ a.shares;
   chosen = b.chosen ∙ a.chosen;
 }
 
 -- other flags of taken units
 pub same_taken : (v : Tables) (taken : List Bool) (w : Tables) → SameList (with_taken v taken) w → SameList v w
-same_taken v taken w a = record { rows = a.rows; bounds = a.bounds; samples = a.samples; nums = a.nums; dens = a.dens; chosen = a.chosen }
+same_taken v taken w a = record { rows = a.rows; bounds = a.bounds; samples = a.samples; shares = a.shares; chosen = a.chosen }
 
 pub loaded_taken : (B : Plans) (v : Tables) (taken : List Bool) → Loaded B v → Loaded B (with_taken v taken)
-loaded_taken B v taken L = record { rising = L.rising; accepted = L.accepted; nums_are = L.nums_are; dens_are = L.dens_are }
+loaded_taken B v taken L = record { rising = L.rising; accepted = L.accepted; shares_are = L.shares_are }
 
 -- no unit is taken yet
 pub none_taken : (n k : ℕ) → get_or (replicate n false) k false ≡ false
@@ -79,3 +82,28 @@ passing B v I taken first past st U more f p over flags =
     by (in_run r) U q z h =
         noted B v I taken r U more z
         (h q.0 (q.1.units_are, lawful_ways (first_row_of v (v.stage + 1) - first_row_of v v.stage) r.tree q.1.lawful, z))
+
+-- the search for the next chosen part: what it finds among the flags from `from` on
+pub next_found : (flags : List Bool) (from r : ℕ) → from ≤ length flags → (o : Option ℕ) → o ≡ position (λ b. b) (drop from flags)
+    → MatchOption o (r ≡ length flags) (λ i. r ≡ from + i) → NextChosen flags from r
+next_found flags from r l (Some i) e is =
+    let h = position-Some (λ b. b) (drop from flags) i false (sym e) in
+    record {
+      low = omega (arith, is);
+      high = omega (arith, is, h.0, length-drop from flags);
+      passed = λ k p q.
+          let at : from + (k - from) ≡ k = omega arith in
+          ap (λ n. get_or flags n false) (sym at) ∙ sym (get_or-drop from flags (k - from) false) ∙ h.2 (k - from) (omega (arith, is));
+      found = λ m. ap (λ n. get_or flags n false) is ∙ sym (get_or-drop from flags i false) ∙ h.1;
+    }
+next_found flags from r l None e is =
+    let all : length (drop from flags) ≤ position_or_len (λ b. b) (drop from flags) = grind (arith, common_steps) in
+    record {
+      low = omega (arith, is);
+      high = omega (arith, is);
+      passed = λ k p q.
+          let at : from + (k - from) ≡ k = omega arith in
+          ap (λ n. get_or flags n false) (sym at) ∙ sym (get_or-drop from flags (k - from) false)
+          ∙ fails_before_first (λ b. b) (drop from flags) (k - from) false (omega (arith, is, length-drop from flags));
+      found = λ m. absurd (omega (arith, is));
+    }

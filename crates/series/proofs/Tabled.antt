@@ -1,5 +1,5 @@
 -- What the invariants of a table say of the lists that it holds.
-use Rattle.std.proofs.Common.{◌≡◌, ℕ, ◌+◌, ◌<◌, ◌≤◌, ltb, ◌⊎◌, length, vec_items, vec_len, sym, ◌∙◌, subst, inl, inr, arith}
+use Rattle.std.proofs.Common.{◌≡◌, ℕ, ◌+◌, ◌<◌, ◌≤◌, ltb, ◌⊎◌, length, sym, ◌∙◌, inl, inr, arith}
 use Rattle.std.proofs.lemmas.Bool.{cases_lt, lt-ltb, le-ltb}
 use Rattle.parts.specs.Bounds.{Rising}
 use Rattle.parts.specs.Running.{all_parts, sample_of, first_row_of}
@@ -16,14 +16,14 @@ shifted a b n e = by (cases_lt a b)
 
 module _ (t : Table) where
   pub rising : Rising (tables t).bounds (length (tables t).rows)
-  rising = subst (λ n. Rising (vec_items t.bounds) n) t.rows.ok.0 (rising_known (vec_items t.bounds) (vec_len t.rows) t.bounds_rise)
+  rising = rising_known t.bounds (length t.rows) t.bounds_rise
 
   -- as many flags and sample sizes as parts
-  pub counted : vec_len t.chosen ≡ length (all_parts (tables t))
-  counted = sym (cut-length (sample_of (tables t)) (vec_items t.rows) (vec_items t.bounds) ∙ omega (arith, t.bounds.ok.0, t.chosen_all))
+  pub counted : length t.chosen ≡ length (all_parts (tables t))
+  counted = sym (cut-length (sample_of (tables t)) t.rows t.bounds ∙ omega (arith, t.chosen_all))
 
   -- the part j is not empty and ends in the list
-  pub bounded : (j : ℕ) → j < vec_len t.chosen → (first_row_of (tables t) j < first_row_of (tables t) (j + 1)) × (first_row_of (tables t) (j + 1) ≤ vec_len t.rows)
+  pub bounded : (j : ℕ) → j < length t.chosen → (first_row_of (tables t) j < first_row_of (tables t) (j + 1)) × (first_row_of (tables t) (j + 1) ≤ length t.rows)
   bounded j l =
-      let r = rising_at (tables t).bounds (length (tables t).rows) j rising (omega (arith, t.bounds.ok.0, t.chosen_all)) in
-      (r.0, omega (arith, r.1, t.rows.ok.0))
+      let r = rising_at (tables t).bounds (length (tables t).rows) j rising (omega (arith, t.chosen_all)) in
+      (r.0, omega (arith, r.1))

@@ -1,5 +1,5 @@
 -- The two kinds of parts, by the words of lists.
-use Rattle.std.specs.Prelude.{Bool, List, [], ◌∷◌, Option}
+use Rattle.std.specs.Prelude.{ℕ, Bool, List, [], ◌∷◌, Option}
 use Rattle.design.specs.Faults.{Refusal, first_of}
 use Rattle.design.specs.Lists.{count_refusal}
 use Rattle.design.specs.declared.row.Row.{Row}
@@ -7,6 +7,11 @@ use Rattle.parts.specs.Parts.{same_stratum, same_cluster}
 use Rattle.parts.specs.Orders.{lower_stratum, lower_cluster, fall_refusal}
 use Rattle.series.specs.declared.kind.PartKind.{PartKind}
 use Rattle.series.specs.declared.kind.PartKind.TheVariants.{Stratum, Cluster}
+
+-- what the rows of one part have in common: the stratum, or the pair of stratum and cluster
+abbrev pub place : PartKind → Row → ℕ × ℕ
+place Stratum r = (r.stratum, 0)
+place Cluster r = (r.stratum, r.cluster)
 
 -- two rows belong to one part
 abbrev pub alike : PartKind → Row → Row → Bool

@@ -1,6 +1,5 @@
 pub mod Kinds
 pub mod Tables
 pub mod Of
-pub mod Raised
 pub mod Moving
 pub mod Calls

@@ -23,7 +23,7 @@ pub record IsNew {D : Type 0} (below : D) (s : Series D) : Type 0 where
 abbrev pub standing : {D : Type 0} → Design.Ghosts D → Series D → Standing
 standing G s = standing_of (plans G s) (tables_of s) (G.tree s.below)
 
--- the design accepts every part, and the prescribed numbers are there
+-- the design accepts every part, and the prescribed shares are there
 abbrev pub IsLoaded : {D : Type 0} → Design.Ghosts D → Series D → Type 0
 IsLoaded G s = Loaded (plans G s) (tables_of s)
 
@@ -35,11 +35,10 @@ IsUnderway G s = Underway (G.intact s.below) (plans G s) (tables_of s) (G.tree s
 abbrev pub IsIntact : {D : Type 0} → Design.Ghosts D → Series D → Type 0
 IsIntact G s = Intact (G.intact s.below) (plans G s) (tables_of s) (G.tree s.below)
 
--- the list, its parts and their prescribed numbers stay
+-- the list, its parts and their prescribed shares stay
 pub record SameList (v w : Tables) : Type 0 where
   pub rows : w.rows ≡ v.rows
   pub bounds : w.bounds ≡ v.bounds
   pub samples : w.samples ≡ v.samples
-  pub nums : w.nums ≡ v.nums
-  pub dens : w.dens ≡ v.dens
+  pub shares : w.shares ≡ v.shares
   pub chosen : w.chosen ≡ v.chosen

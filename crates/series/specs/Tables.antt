@@ -1,19 +1,18 @@
 -- What the fields of a table stand for.
-use Rattle.std.specs.Prelude.{ℕ, ◌-◌, Bool, true, false, List, length, replicate, vec_items}
+use Rattle.std.specs.Prelude.{ℕ, ◌-◌, Bool, true, false, List, length, replicate}
 use Rattle.design.specs.declared.row.Row.{Row}
 use Rattle.parts.specs.Parts.{bounds}
-use Rattle.parts.specs.Running.{Tables}
+use Rattle.parts.specs.Running.{Tables, no_share}
 use Rattle.series.specs.declared.table.Table.{Table}
 
 abbrev pub tables : Table → Tables
 tables t = record {
-  rows = vec_items t.rows;
-  bounds = vec_items t.bounds;
-  samples = vec_items t.samples;
-  nums = vec_items t.nums;
-  dens = vec_items t.dens;
-  chosen = vec_items t.chosen;
-  taken = vec_items t.taken;
+  rows = t.rows;
+  bounds = t.bounds;
+  samples = t.samples;
+  shares = t.shares;
+  chosen = t.chosen;
+  taken = t.taken;
   stage = t.stage;
 }
 
@@ -23,8 +22,7 @@ newly_cut alike list = record {
   rows = list;
   bounds = bounds alike list;
   samples = replicate (length (bounds alike list) - 1) 0;
-  nums = replicate (length list) 0;
-  dens = replicate (length list) 0;
+  shares = replicate (length list) no_share;
   chosen = replicate (length (bounds alike list) - 1) true;
   taken = replicate (length list) false;
   stage = 0;
@@ -36,8 +34,7 @@ asked v samples = record {
   rows = v.rows;
   bounds = v.bounds;
   samples = samples;
-  nums = v.nums;
-  dens = v.dens;
+  shares = v.shares;
   chosen = v.chosen;
   taken = v.taken;
   stage = v.stage;

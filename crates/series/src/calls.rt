@@ -1,4 +1,4 @@
-ghost use Rattle.std.specs.Prelude.{◌≡◌, ◌<◌, length, IfOk, vec_len};
+ghost use Rattle.std.specs.Prelude.{◌≡◌, ◌<◌, length, IfOk};
 ghost use Rattle.design.specs.Design.{Shared, Stepped, ways_of};
 ghost use Rattle.series.specs.Of.{IsIntact, IsNew, SameList, plans, standing, tables_of};
 ghost use Rattle.series.specs.Calls.{aside_share};
@@ -7,6 +7,7 @@ use crate::Series;
 use crate::table::Table;
 use design::design::Design;
 use design::fault::{Fault, Reason};
+use design::fraction::Fraction;
 use std::alloc::{AllocError, Global};
 
 impl<D: Design> Series<D> {
@@ -20,7 +21,7 @@ impl<D: Design> Series<D> {
         Ok(Series { below, table })
     }
 
-    /// The ways of the next throw, and 0 where the run has come to its outcome.
+    /// The ways of the next throw, and 0, as a design's, where the run has come to its outcome.
     pub fn ways(&self) -> u32
         ensures { IsIntact D.Design self.now → result ≡ ways_of (standing D.Design self.now) }
     {
@@ -46,21 +47,28 @@ impl<D: Design> Series<D> {
     }
 
     // The share of the unit k of part j, which is behind or ahead: all or nothing behind; ahead, what is prescribed if the part is chosen.
-    fn share_aside(&self, k: usize, j: usize) -> (u64, u64)
-        requires unit { k < vec_len self.now.table.rows }
-        requires part { j < vec_len self.now.table.chosen }
+    fn share_aside(&self, k: usize, j: usize) -> Fraction
+        requires unit { k < length (tables_of self.now).rows }
+        requires part { j < length (tables_of self.now).chosen }
         ensures { result ≡ aside_share (tables_of self.now) k j }
     {
-        let (num, den) = self.table.prescribed(k);
-        if j < self.table.stage {
-            (if self.table.taken[k] { den } else { 0 }, den)
+        let share = self.table.prescribed(k);
+        let numerator = if j < self.table.stage {
+            if self.table.taken.as_slice()[k] {
+                share.denominator
+            } else {
+                0
+            }
+        } else if self.table.chosen.as_slice()[j] {
+            share.numerator
         } else {
-            (if self.table.chosen[j] { num } else { 0 }, den)
-        }
+            0
+        };
+        Fraction::new(numerator, share.denominator)
     }
 
-    /// The inclusion share of the unit k in the present tree: numerator and denominator.
-    pub fn share(&self, k: u32) -> Result<(u64, u64), Fault>
+    /// The inclusion share of the unit k in the present tree.
+    pub fn share(&self, k: u32) -> Result<Fraction, Fault>
         ensures { IsIntact D.Design self.now → Shared (standing D.Design self.now) k result }
     {
         if k as usize >= self.table.units() {

@@ -1,39 +1,42 @@
 ghost use Rattle.std.specs.Prelude.{◌≡◌, ◌≤◌, length};
 ghost use Rattle.design.specs.Faults.{Answers};
 ghost use Rattle.parts.specs.Orders.{fall_refusal};
-ghost use Rattle.series.specs.Kinds.{alike, lower};
+ghost use Rattle.series.specs.Kinds.{alike, lower, place};
 
+use design::check::refuse_at;
 use design::fault::{Fault, Reason};
 use design::row::Row;
 
 /// What makes neighbouring rows one part of a list.
-#[derive(Clone, Copy)]
+#[derive(Clone, Copy, PartialEq, Eq, Debug)]
 pub enum PartKind {
     Stratum,
     Cluster,
 }
 
 impl PartKind {
+    // What is the same in all rows of a part, and falls nowhere in a list.
+    fn place(self, row: Row) -> (u16, u16)
+        ensures { result ≡ place self row }
+    {
+        match self {
+            PartKind::Stratum => (row.stratum, 0),
+            PartKind::Cluster => (row.stratum, row.cluster),
+        }
+    }
+
     // Whether the rows q and r belong to one part.
     pub(crate) fn joins(self, q: Row, r: Row) -> bool
         ensures { result ≡ alike self q r }
     {
-        match self {
-            PartKind::Stratum => r.stratum == q.stratum,
-            PartKind::Cluster => r.stratum == q.stratum && r.cluster == q.cluster,
-        }
+        self.place(q) == self.place(r)
     }
 
     // Whether the row r is lower than q.
     fn falls(self, q: Row, r: Row) -> bool
         ensures { result ≡ lower self q r }
     {
-        match self {
-            PartKind::Stratum => r.stratum < q.stratum,
-            PartKind::Cluster => {
-                r.stratum < q.stratum || (r.stratum == q.stratum && r.cluster < q.cluster)
-            }
-        }
+        self.place(r) < self.place(q)
     }
 
     // Refuses the first row that is lower than the row before it.
@@ -41,11 +44,7 @@ impl PartKind {
         requires { length list.now ≤ 1024 }
         ensures { Answers (fall_refusal (lower self) list.now) (λ _. Unit {0}) result }
     {
-        for i in 1..list.len() {
-            if self.falls(list[i - 1], list[i]) {
-                return Err(Fault::at(Reason::OutOfOrder, i as u32));
-            }
-        }
-        Ok(())
+        let fall = (1..list.len()).find(|i| self.falls(list[*i - 1], list[*i]));
+        refuse_at(fall, Reason::OutOfOrder)
     }
 }

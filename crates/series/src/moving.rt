@@ -1,4 +1,4 @@
-ghost use Rattle.std.specs.Prelude.{◌≡◌, ℕ, ◌-◌, ◌<◌, ◌≤◌, false, length, get_or, vec_len, vec_capacity, slice_index_or};
+ghost use Rattle.std.specs.Prelude.{◌≡◌, ℕ, ◌-◌, ◌<◌, ◌≤◌, false, length, slice_index_or};
 ghost use Rattle.parts.specs.Copying.{Over, outcome_of, written};
 ghost use Rattle.parts.specs.Running.{Moved, NextChosen, run_from, so_far};
 ghost use Rattle.parts.specs.Series.{nothing};
@@ -6,32 +6,21 @@ ghost use Rattle.series.specs.Of.{IsIntact, IsLoaded, IsUnderway, SameList, plan
 ghost use Rattle.series.specs.Moving.{CanEnter, Finished, Chosen, with_chosen};
 
 use crate::Series;
-use crate::table::making::fill;
+use bounded::BoundedVec;
+use design::check::MOST_ROWS;
 use design::design::Design;
 use design::fault::Fault;
+use std::ops::Range;
 
-// Whether the unit k is taken, where the run of the design is finished and has such a unit.
-fn is_taken<D: Design>(design: &D, k: u32) -> bool
-    ensures { D.Design.intact design.now → (n : ℕ) → Over (D.Design.tree design.now) n → k < n → result ≡ outcome_of (D.Design.tree design.now) k }
+// Notes which units of a finished run are taken, in these places of the flags.
+fn note_taken<D: Design>(design: &D, flags: &mut BoundedVec<bool, MOST_ROWS>, places: Range<usize>)
+    requires forward { places.start ≤ places.end }
+    requires within { places.end ≤ length flags.old }
+    requires few { length flags.old ≤ 1024 }
+    ensures len { length flags.new ≡ length flags.old }
+    ensures noted { D.Design.intact design.now → Over (D.Design.tree design.now) (places.end - places.start) → (k : ℕ) → slice_index_or flags.new k false ≡ written (λ i. slice_index_or flags.old i false) places.start places.end (outcome_of (D.Design.tree design.now)) k }
 {
-    match design.taken(k) {
-        Ok(taken) => taken,
-        Err(_) => false,
-    }
-}
-
-// Notes which units of a finished run are taken, in the flags from `first` up to `past`.
-fn note_taken<D: Design>(design: &D, flags: &mut Vec<bool>, first: usize, past: usize)
-    requires forward { first ≤ past }
-    requires within { past ≤ vec_len flags.old }
-    requires few { vec_len flags.old ≤ 1024 }
-    ensures len { vec_len flags.new ≡ vec_len flags.old }
-    ensures capacity { vec_capacity flags.new ≡ vec_capacity flags.old }
-    ensures noted { D.Design.intact design.now → Over (D.Design.tree design.now) (past - first) → (k : ℕ) → slice_index_or flags.new.items k false ≡ written (λ i. get_or flags.old.items i false) first past (outcome_of (D.Design.tree design.now)) k }
-{
-    for i in first..past {
-        flags[i] = is_taken(design, (i - first) as u32);
-    }
+    flags.write(places, |k| design.taken(k).unwrap_or(false));
 }
 
 // The first flag from `from` on that is set, or the number of flags.
@@ -39,24 +28,22 @@ fn next_set(flags: &[bool], from: usize) -> usize
     requires { from ≤ length flags.now }
     ensures { NextChosen flags.now from result }
 {
-    for i in from..flags.len() {
-        if flags[i] {
-            return i;
-        }
-    }
-    flags.len()
+    flags[from..]
+        .iter()
+        .position(|set| *set)
+        .map_or(flags.len(), |i| from + i)
 }
 
 impl<D: Design> Series<D> {
     // Begins the design on the first chosen part from the part `from` on, if there is one.
     fn enter(&mut self, from: usize) -> Result<(), Fault>
-        requires { from ≤ vec_len self.old.table.chosen }
+        requires { from ≤ length (tables_of self.old).chosen }
         ensures forward { from ≤ self.new.table.stage }
         ensures same { SameList (tables_of self.old) (tables_of self.new) }
         ensures settings { plans D.Design self.new ≡ plans D.Design self.old }
         ensures entered { CanEnter D.Design self.old from → Moved result (IsUnderway D.Design self.new) (standing D.Design self.new) (run_from (plans D.Design self.old) (tables_of self.old) from (so_far (tables_of self.old))) }
     {
-        let j = next_set(&self.table.chosen, from);
+        let j = next_set(self.table.chosen.as_slice(), from);
         self.table.stage = j;
         if j < self.table.count() {
             self.below.begin(self.table.part(j), self.table.sample(j))
@@ -67,16 +54,15 @@ impl<D: Design> Series<D> {
 
     // Notes which units of the finished present part are taken, and goes on to the next chosen part.
     fn pass_on(&mut self) -> Result<(), Fault>
-        requires { self.old.table.stage < vec_len self.old.table.chosen }
+        requires { (tables_of self.old).stage < length (tables_of self.old).chosen }
         ensures forward { self.old.table.stage < self.new.table.stage }
         ensures same { SameList (tables_of self.old) (tables_of self.new) }
         ensures settings { plans D.Design self.new ≡ plans D.Design self.old }
         ensures passed { IsUnderway D.Design self.old → Finished D.Design self.old → Moved result (IsUnderway D.Design self.new) (standing D.Design self.new) (standing D.Design self.old) }
     {
         let j = self.table.stage;
-        let first = self.table.first_row(j) as usize;
-        let past = self.table.first_row(j + 1) as usize;
-        note_taken(&self.below, &mut self.table.taken, first, past);
+        let rows = self.table.rows_of(j);
+        note_taken(&self.below, &mut self.table.taken, rows);
         self.enter(j + 1)
     }
 
@@ -92,14 +78,14 @@ impl<D: Design> Series<D> {
         Ok(())
     }
 
-    /// Chooses the parts that the finished run of `first` has taken; only the choice changes.
-    pub fn choose<A: Design>(&mut self, first: &A)
-        ensures chosen { A.Design.intact first.now → Over (A.Design.tree first.now) (length (tables_of self.old).chosen) → Chosen (outcome_of (A.Design.tree first.now)) (tables_of self.old) (tables_of self.new) }
+    /// Chooses the parts that the finished run of this design has taken; only the choice changes.
+    pub fn choose<A: Design>(&mut self, design: &A)
+        ensures chosen { A.Design.intact design.now → Over (A.Design.tree design.now) (length (tables_of self.old).chosen) → Chosen (outcome_of (A.Design.tree design.now)) (tables_of self.old) (tables_of self.new) }
         ensures same { tables_of self.new ≡ with_chosen (tables_of self.old) (tables_of self.new).chosen }
         ensures below { self.new.below ≡ self.old.below }
     {
         let count = self.table.chosen.len();
-        note_taken(first, &mut self.table.chosen, 0, count);
+        note_taken(design, &mut self.table.chosen, 0..count);
     }
 
     /// Starts a run on the chosen parts of a list that is loaded: one on which every part was tried and accepted.
@@ -109,7 +95,7 @@ impl<D: Design> Series<D> {
         ensures started { IsLoaded D.Design self.old → Moved result (IsIntact D.Design self.new) (standing D.Design self.new) (run_from (plans D.Design self.old) (tables_of self.old) 0 nothing) }
     {
         let units = self.table.units();
-        fill(&mut self.table.taken, units, false);
+        self.table.taken.fill(units, false);
         self.enter(0)?;
         self.settle()
     }

@@ -1,5 +1,5 @@
 -- What the fields of a stratification stand for.
-use Rattle.std.specs.Prelude.{◌≡◌, ℕ, false, List, [], vec_items}
+use Rattle.std.specs.Prelude.{◌≡◌, ℕ, false, List, []}
 use Rattle.design.specs.declared.row.Row.{Row}
 use Rattle.parts.specs.Parts.{same_stratum}
 use Rattle.parts.specs.Running.{Tables}
@@ -8,7 +8,7 @@ use Rattle.stratified.specs.declared.Stratified.{Stratified}
 
 -- the table of takes
 abbrev pub takes_of : {D : Type 0} → Stratified D → List ℕ
-takes_of s = vec_items s.takes.items
+takes_of s = s.takes.items
 
 -- the design below, with no takes set and no run
 pub record IsNew {D : Type 0} (below : D) (s : Stratified D) : Type 0 where

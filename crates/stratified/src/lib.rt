@@ -13,6 +13,7 @@ ghost use Rattle.stratified.specs.Of.{takes_of, IsNew, cut_strata, Allotted, Sam
 
 use design::design::Design;
 use design::fault::{Fault, Reason};
+use design::fraction::Fraction;
 use design::row::Row;
 use series::Series;
 use series::kind::PartKind;
@@ -26,6 +27,7 @@ mod takes;
 pub struct Stratified<D: Design> {
     strata: Series<D>,
     takes: Takes,
+    // Whether the series holds a run. It is no Option of a series, as its memory stays from one run to the next.
     running: bool,
 }
 
@@ -105,7 +107,7 @@ impl<D: Design> Design for Stratified<D> {
         self.strata.step(d)
     }
 
-    fn share(&self, k: u32) -> Result<(u64, u64), Fault> {
+    fn share(&self, k: u32) -> Result<Fraction, Fault> {
         if !self.running {
             return Err(Fault::of(Reason::NoSuchUnit));
         }

@@ -1,9 +1,9 @@
-ghost use Rattle.std.specs.Prelude.{◌≡◌, ◌≤◌, [], length, IfOk, OnErr, vec_len, vec_capacity, ◌==◌};
+ghost use Rattle.std.specs.Prelude.{◌≡◌, ◌≤◌, [], length, IfOk, OnErr, ◌==◌};
 ghost use Rattle.design.specs.Faults.{Answers};
 ghost use Rattle.layers.specs.Stratified.{allot_refusal, total_take};
 
+use bounded::BoundedVec;
 use design::fault::{Fault, Reason};
-use series::table::making::copy;
 use std::alloc::{AllocError, Global};
 
 /// The most takes that a table may have.
@@ -12,9 +12,7 @@ pub const MOST_TAKES: usize = 64;
 /// A table of takes: the sample size of each stratum, in order.
 #[derive(Drop)]
 pub struct Takes {
-    items: Vec<u32>,
-    ghost room: { 64 ≤ vec_capacity items },
-    ghost few: { vec_len items ≤ 64 },
+    items: BoundedVec<u32, MOST_TAKES>,
 }
 
 // Refuses a table with no takes or too many, and one with a take of 0.
@@ -24,10 +22,9 @@ fn check_takes(takes: &[u32]) -> Result<(), Fault>
     if takes.is_empty() || takes.len() > MOST_TAKES {
         return Err(Fault::of(Reason::TakesOutOfRange));
     }
-    for i in 0..takes.len() {
-        if takes[i] == 0 {
-            return Err(Fault::of(Reason::TakeZero));
-        }
+    let zero = takes.contains(&0);
+    if zero {
+        return Err(Fault::of(Reason::TakeZero));
     }
     Ok(())
 }
@@ -37,50 +34,46 @@ fn total_of(takes: &[u32]) -> u64
     requires { length takes.now ≤ 64 }
     ensures { result ≡ total_take takes.now }
 {
-    let mut total: u64 = 0;
-    for i in 0..takes.len() {
-        total += takes[i] as u64;
-    }
-    total
+    takes.iter().map(|take| *take as u64).sum()
 }
 
 impl Takes {
     /// No takes, and room for every table that is accepted.
     pub fn new(heap: Global) -> Result<Self, AllocError>
-        ensures { IfOk result (λ t. t.items.items ≡ []) }
+        ensures { IfOk result (λ t. t.items ≡ []) }
     {
-        let items = Vec::with_capacity(heap, MOST_TAKES)?;
+        let items = BoundedVec::new(heap)?;
         Ok(Takes { items })
     }
 
     /// Sets the takes; refused, nothing changes.
     pub fn set(&mut self, takes: &[u32]) -> Result<(), Fault>
-        ensures answers { Answers (allot_refusal takes.now) (λ _. self.new.items.items ≡ takes.now) result }
+        ensures answers { Answers (allot_refusal takes.now) (λ _. self.new.items ≡ takes.now) result }
         ensures refused { OnErr result (self.new ≡ self.old) }
     {
         check_takes(takes)?;
-        copy(takes, &mut self.items);
+        self.items.copy_from(takes);
         Ok(())
     }
 
     /// Whether no takes are set.
     pub fn is_empty(&self) -> bool
-        ensures { result ≡ (length self.now.items.items == 0) }
+        ensures { result ≡ (length self.now.items == 0) }
     {
-        self.items.is_empty()
+        self.items.as_slice().is_empty()
     }
 
     /// The takes, in the order of the strata.
     pub fn as_slice(&self) -> &[u32]
-        ensures { result.now ≡ self.now.items.items }
+        ensures { result.now ≡ self.now.items }
     {
-        &self.items
+        self.items.as_slice()
     }
 
     /// The sum of the takes.
     pub fn total(&self) -> u64
-        ensures { result ≡ total_take self.now.items.items }
+        ensures { result ≡ total_take self.now.items }
     {
-        total_of(&self.items)
+        total_of(self.items.as_slice())
     }
 }

@@ -1,27 +1,25 @@
 //! Systematic drawing, as code.
 #![tactic(auto)]
 
-ghost use Rattle.std.specs.Prelude.{◌≡◌, ◌<◌, ◌≤◌, true, false, length, IfOk};
+ghost use Rattle.std.specs.Prelude.{◌≡◌, ◌<◌, ◌≤◌, length};
 ghost use Rattle.methods.specs.Holdings.{Within};
-ghost use Rattle.methods.specs.Systematic.{systematic_plan};
+ghost use Rattle.methods.specs.Systematic.{systematic, systematic_plan};
 ghost use Rattle.methods.specs.SystematicRuns.{systematic_tree, Held, Struck};
-ghost use Rattle.plain.specs.Of.{runs, whole, held, stands_at};
-ghost use Rattle.methods.proofs.Systematics.{systematic_sound, fair, lawful};
-ghost use Rattle.methods.proofs.Holdings.{sound_held};
-ghost use Rattle.methods.proofs.Systematics;
+ghost use Rattle.methods.proofs.Systematics.{systematic_sound, fair, lawful, held_once};
+ghost use Rattle.plain.specs.Of.{runs, whole, held};
 
 use design::design::Design;
-use design::fault::{Fault, Reason};
-use design::row::Row;
+use plain::Plain;
 use plain::holdings::Holdings;
-use std::alloc::{AllocError, Global};
+use plain::method::Method;
 
 /// Systematic drawing: one throw settles every unit.
-#[derive(Drop)]
-pub struct Systematic {
-    units: Holdings,
+pub type Systematic = Plain<OneThrow>;
+
+/// The method of systematic drawing.
+#[derive(Clone, Copy, Default)]
+pub struct OneThrow {
     thrown: bool,
-    ghost holding: { ∥ (runs units ≡ true → Held (whole units) (held units) thrown) ∥₁ },
 }
 
 // Leaves the total to each unit that has one of the points r, r + total, r + 2 total and so on among its numbers, and nothing to the others.
@@ -37,6 +35,8 @@ fn strike(units: &mut Holdings, r: u32)
     let total = units.total();
     let mut sum: u64 = 0;
     let mut point = r as u64;
+    // By number: units lent as a slice would need a clause on what is left when the loan ends, and a closure over all of them one on the
+    // chain of its sums and points.
     for i in 0..units.units() {
         sum += units.get(i) as u64;
         if point < sum {
@@ -48,63 +48,39 @@ fn strike(units: &mut Holdings, r: u32)
     }
 }
 
-impl Systematic {
-    /// A design with no run, and room for every list that begin accepts, so that no later call needs memory.
-    pub fn new(heap: Global) -> Result<Self, AllocError>
-        ensures { IfOk result (λ s. runs s.units ≡ false) }
-    {
-        let units = Holdings::new(heap)?;
-        Ok(Systematic {
-            units,
-            thrown: false,
-        })
-    }
-}
+impl Method for OneThrow {
+    ghost begun = { systematic };
 
-impl Design for Systematic {
-    ghost plan = { λ _. systematic_plan };
+    ghost tree = { λ m u. systematic_tree (whole u) (held u) m.thrown };
 
-    ghost tree = { λ s. stands_at s.units (systematic_tree (whole s.units) (held s.units) s.thrown) };
+    ghost kept = { λ m u. Held (whole u) (held u) m.thrown };
 
-    ghost intact = { λ _. Unit {0} };
+    ghost sound = { systematic_sound };
 
-    ghost sound = { λ s list n. systematic_sound list n };
+    ghost exact = { λ m u h. record {
+      some = h.0;
+      within = h.1;
+      lawful = lawful (whole u) (held u) m.thrown h;
+      shares = λ k l. fair (whole u) (held u) m.thrown k h l;
+    } };
 
-    ghost exact = { λ s i.
-        let all = whole s.units in
-        let holds = held s.units in
-        let h = Systematics.holding all holds s.thrown (runs s.units) s.holding in
-        sound_held (runs s.units) all holds (systematic_tree all holds s.thrown)
-        (λ e. ((h e).0, (h e).1)) (λ e. lawful all holds s.thrown (h e)) (λ e k l. fair all holds s.thrown k (h e) l) };
+    ghost kept_once = { λ m u. held_once (whole u) (held u) m.thrown };
 
-    fn begin(&mut self, list: &[Row], n: u32) -> Result<(), Fault> {
-        self.units.begin(list, n)?;
-        self.thrown = false;
-        Ok(())
+    fn start(_units: &Holdings) -> Self {
+        OneThrow { thrown: false }
     }
 
-    fn ways(&self) -> u32 {
-        if self.units.is_running() && !self.thrown {
-            self.units.total()
-        } else {
-            0
-        }
+    fn ways(&self, units: &Holdings) -> u32 {
+        if self.thrown { 0 } else { units.total() }
     }
 
-    fn step(&mut self, d: u32) -> Result<(), Fault> {
-        let ways = self.ways();
-        if ways == 0 {
-            return Err(Fault::of(Reason::NoWays));
-        }
-        if d >= ways {
-            return Err(Fault::of(Reason::NoSuchThrow));
-        }
-        strike(&mut self.units, d);
+    fn settle(&mut self, units: &mut Holdings, d: u32) {
+        strike(units, d);
         self.thrown = true;
-        Ok(())
-    }
-
-    fn share(&self, k: u32) -> Result<(u64, u64), Fault> {
-        self.units.share(k)
     }
 }
+
+/// The plan of each list is that of systematic drawing, in any state of the design.
+pub fn plan_is_systematic(design: &Systematic)
+    ensures { ⟦<Systematic as Design>⟧.plan design.now ≡ systematic_plan }
+{}

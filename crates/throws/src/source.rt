@@ -11,11 +11,10 @@ pub trait Source {
         ensures { TookWord result (waiting self.old) (waiting self.new) };
 }
 
-/// The words of the caller's list, in its order.
+/// The words of the caller's list that are left, in its order.
 #[derive(Drop)]
 pub struct Listed<'a> {
     words: &'a [u32],
-    next: usize,
 }
 
 impl<'a> Listed<'a> {
@@ -23,7 +22,7 @@ impl<'a> Listed<'a> {
     pub fn new(words: &'a [u32]) -> Listed<'a>
         ensures { listed result ≡ words.now }
     {
-        Listed { words, next: 0 }
+        Listed { words }
     }
 }
 
@@ -31,12 +30,9 @@ impl Source for Listed<'_> {
     ghost waiting = { listed };
 
     fn word(&mut self) -> Option<u32> {
-        if self.next >= self.words.len() {
-            return None;
-        }
-        let w = self.words[self.next];
-        self.next += 1;
-        Some(w)
+        let (first, rest) = self.words.split_first()?;
+        self.words = rest;
+        Some(*first)
     }
 }
 
@@ -61,14 +57,12 @@ impl Source for Xorshift32 {
     ghost waiting = { generated };
 
     fn word(&mut self) -> Option<u32> {
-        if self.count == 0 {
-            return None;
-        }
+        let left = self.count.checked_sub(1)?;
         let a = self.state ^ (self.state << 13);
         let b = a ^ (a >> 17);
         let w = b ^ (b << 5);
         self.state = w;
-        self.count -= 1;
+        self.count = left;
         Some(w)
     }
 }

@@ -1,10 +1,11 @@
 -- Two-stage drawing that begins: its run is the one of its plan.
-use Rattle.std.proofs.Common.{◌≡◌, ℕ, zero, suc, ◌*◌, ◌/◌, ◌^◌, ◌<◌, ◌≤◌, Bool, cond, ltb, List, [], ◌∷◌, length, get_or, map, Some, None, Option, sym, refl, ap, ◌∙◌, subst, ap₂, arith}
+use Rattle.std.proofs.Common.{◌≡◌, ℕ, zero, suc, ◌*◌, ◌/◌, ◌^◌, ◌<◌, ◌≤◌, Bool, cond, ltb, List, [], ◌∷◌, length, map, Some, None, Option, sym, refl, ap, ◌∙◌, subst, ap₂, arith}
 use Rattle.std.proofs.lemmas.List.{length-map}
 use Rattle.outcomes.specs.Trees.{Lawful}
 use Rattle.design.specs.Faults.{or_else, first_of, refused_at}
 use Rattle.design.specs.Lists.{first}
 use Rattle.design.specs.Design.{Plan, refuses, accepts, Standing, in_run, SoundPlan}
+use Rattle.design.specs.declared.fraction.Fraction.{Fraction}
 use Rattle.design.specs.declared.row.Row.{Row}
 use Rattle.parts.specs.Parts.{Part, bounds, same_cluster, place_of}
 use Rattle.parts.specs.Series.{Plans, denominator_of, denominators, part_refusal}
@@ -12,7 +13,7 @@ use Rattle.parts.specs.Running.{Tables, all_parts, Loaded}
 use Rattle.layers.specs.TwoStage.{clusters, cluster_row, first_plan, first_refusal, stages, stage_denominators, too_large, product_refusal, stages_run}
 use Rattle.layers.specs.Stages.{units_of, denominator_at, Begins, in_first, Fits, FirstUnderway}
 use Rattle.layers.proofs.TwoStagePlans.{product_small}
-use Rattle.two_stage.specs.Of.{cut_clusters, opening_refusal}
+use Rattle.two_stage.specs.Of.{cut_clusters, opening_refusal, large_product}
 use Rattle.two_stage.proofs.Cutting.{clusters_are}
 
 first_same : (n : ℕ) (p q : ℕ → Bool) → ((k : ℕ) → k < n → p k ≡ q k) → first n p ≡ first n q
@@ -30,11 +31,11 @@ units_begun list (accepts num run) st s b = ap units_of b ∙ s.units_listed
 
 -- ---- the products of denominators
 module _ (B : Plans) (w : Tables) (L : Loaded B w) (a : Plan) (st : Standing) (b : Begins a st) (ps : List Part) (list : List Row) (p : all_parts w ≡ ps) (r : length w.rows ≡ length list) where
-  pub products_are : refused_at (first (length w.rows) (too_large (λ k. denominator_at st (place_of 0 (all_parts w) k) * get_or w.dens k 0))) 16 ≡ product_refusal a B ps (length list)
+  pub products_are : refused_at (first (length w.rows) (large_product st w)) 16 ≡ product_refusal a B ps (length list)
   products_are =
       ap (λ (o : Option ℕ). refused_at o 16)
-      (first_same (length w.rows) (too_large (λ k. denominator_at st (place_of 0 (all_parts w) k) * get_or w.dens k 0)) (too_large (stage_denominators a B (all_parts w)))
-      (λ k l. ap₂ (λ (c d : ℕ). ltb (10 ^ 15) (c * d)) (denominator_begun a st (place_of 0 (all_parts w) k) b) (L.dens_are k l)))
+      (first_same (length w.rows) (large_product st w) (too_large (stage_denominators a B (all_parts w)))
+      (λ k l. ap₂ (λ (c d : ℕ). ltb (10 ^ 15) (c * d)) (denominator_begun a st (place_of 0 (all_parts w) k) b) (ap (λ (s : Fraction). s.denominator) (L.shares_are k l))))
       ∙ ap₂ (λ (n : ℕ) (qs : List Part). refused_at (first n (too_large (stage_denominators a B qs))) 16) r p
 
   pub first_run : in_first B w st ≡ in_run (stages_run a B ps (length list))

@@ -30,9 +30,6 @@ module _ (m : ℕ) (list : List Row) (n : ℕ) (some : eqb m 0 ≡ false) (lists
     past_falls : clusters_refusal m list n ≡ first_of (refused_if (not (eqb (n % m) 0)) 14 ∷ crowd_refusal (bounds same_cluster list) ∷ [])
     past_falls = left_is ∙ ap (λ (x : Option Refusal). or_else x (first_of (refused_if (not (eqb (n % m) 0)) 14 ∷ crowd_refusal (bounds same_cluster list) ∷ []))) falls
 
-    pub no_multiple : eqb (n % m) 0 ≡ false → clusters_refusal m list n ≡ Some (refusal_at 14 0)
-    no_multiple e = past_falls ∙ ap (λ x. first_of (refused_if (not x) 14 ∷ crowd_refusal (bounds same_cluster list) ∷ [])) e
-
     pub crowded : eqb (n % m) 0 ≡ true → 129 < length (bounds same_cluster list) → clusters_refusal m list n ≡ Some (refusal_at 15 (get_or (bounds same_cluster list) 128 0))
     crowded e l =
         past_falls ∙ ap (λ x. first_of (refused_if (not x) 14 ∷ crowd_refusal (bounds same_cluster list) ∷ [])) e

@@ -38,7 +38,7 @@ module _ (I : Type 0) (B : Plans) (v : Tables) (st : Standing) (u : FirstUnderwa
     (ch : Chosen (outcome_of st) v w) where
   pub loaded_chosen : Loaded B w
   loaded_chosen =
-      subst (Loaded B) (sym ch.same) (record { rising = u.loaded.rising; accepted = u.loaded.accepted; nums_are = u.loaded.nums_are; dens_are = u.loaded.dens_are })
+      subst (Loaded B) (sym ch.same) (record { rising = u.loaded.rising; accepted = u.loaded.accepted; shares_are = u.loaded.shares_are })
 
   chosen_parts : all_parts w ≡ all_parts v
   chosen_parts = ap all_parts ch.same

@@ -1,15 +1,22 @@
 -- The shares of two-stage drawing.
-use Rattle.std.proofs.Common.{◌≡◌, ℕ, ◌*◌, ◌^◌, ◌<◌, ◌≤◌, get_or, Ok, Err, sym, subst, ap₂, arith}
+use Rattle.std.proofs.Common.{◌≡◌, ℕ, ◌*◌, ◌^◌, ◌<◌, ◌≤◌, true, false, get_or, Ok, Err, sym, refl, subst, ap₂, arith}
+use denote.Enum.Bare.{sameb}
+use Rattle.std.proofs.lemmas.Bool.{false≢true}
 use Rattle.std.proofs.Math.Nat.{le_of_mul-le-mul_right, mul-le-mul_left}
 use Rattle.outcomes.specs.Trees.{Tree, Sample, Share, HasWays, weight, inclusion}
 use Rattle.outcomes.proofs.Trees.{positive, event_and_not, lawful_ways}
 use Rattle.design.specs.Design.{Standing, no_run, in_run, Shared, SoundStanding}
 use Rattle.design.specs.declared.fault.Fault.{Fault}
+use Rattle.design.specs.declared.fraction.Fraction.{Fraction}
 use Rattle.parts.specs.Seats.{Seated}
-use Rattle.parts.specs.Series.{Plans}
+use Rattle.parts.specs.Series.{Plans, fraction}
 use Rattle.parts.specs.Running.{Tables}
 use Rattle.parts.proofs.Places.{cut-length}
-use Rattle.layers.specs.Stages.{Fits}
+use Rattle.layers.specs.Stages.{Fits, FirstUnderway}
+use Rattle.two_stage.specs.Of.{WholeIn}
+use Rattle.two_stage.specs.contracts.Stage.{the_type}
+use Rattle.two_stage.specs.declared.Stage.{Stage}
+use Rattle.two_stage.specs.declared.Stage.TheVariants.{Waiting, First, Second}
 
 -- a share is no larger than one
 cancel : (a b w i : ℕ) → 0 < w → i ≤ w → a * w ≡ b * i → a ≤ b
@@ -19,11 +26,11 @@ share_le : (k num den : ℕ) (t : Tree Sample) → HasWays t → Share k num den
 share_le k num den t h s = cancel num den (weight t) (inclusion k t) (positive t h) (omega (arith, event_and_not (λ u. u k) t)) s
 
 -- its numbers fit 64 bits
-pub small : (st : Standing) → SoundStanding st → (k a b : ℕ) → Shared st k (Ok (a, b)) → (a ≤ b) × (b ≤ 10 ^ 15)
-small no_run s k a b h = absurd h
-small (in_run r) s k a b h =
+small : (st : Standing) → SoundStanding st → (k : ℕ) (x : Fraction) → Shared st k (Ok x) → (x.numerator ≤ x.denominator) × (x.denominator ≤ 10 ^ 15)
+small no_run s k x h = absurd h
+small (in_run r) s k x h =
     let den = h.1.0 in (
-      subst (λ d. a ≤ d) (sym den) (share_le k a (r.denominator k) r.tree (lawful_ways r.units r.tree s.lawful) h.1.1),
+      subst (λ d. x.numerator ≤ d) (sym den) (share_le k x.numerator (r.denominator k) r.tree (lawful_ways r.units r.tree s.lawful) h.1.1),
       subst (λ d. d ≤ 10 ^ 15) (sym den) (s.denominators k h.0).1,
     )
 
@@ -32,8 +39,24 @@ pub never_refused : (B : Plans) (v : Tables) (st : Standing) → Fits B v st →
 never_refused B v no_run f k j s e h = f
 never_refused B v (in_run r) f k j s e h = omega (arith, f.units_are, h.0, s.place, cut-length (λ i. get_or v.samples i 0) v.rows v.bounds)
 
--- the numbers that the code multiplies are those of the share
-pub as_answered : (st : Standing) → SoundStanding st → (k a b x y : ℕ) → Shared st k (Ok (a, b)) → (a < 2 ^ 64 → x ≡ a) → (b < 2 ^ 64 → y ≡ b) → Shared st k (Ok (x, y))
-as_answered st s k a b x y h p q =
-    let z = small st s k a b h in
-    subst (λ (c : ℕ × ℕ). Shared st k (Ok c)) (sym (ap₂ (λ (c d : ℕ). (c, d)) (p (omega (arith, z.0, z.1))) (q (omega (arith, z.1))))) h
+-- x, whose numbers are those of a share where 64 bits hold them, is that share
+pub as_answered : (st : Standing) → SoundStanding st → (k a b : ℕ) (x : Fraction) → Shared st k (Ok (fraction a b)) → (a < 2 ^ 64 → x.numerator ≡ a) → (b < 2 ^ 64 → x.denominator ≡ b) → Shared st k (Ok x)
+as_answered st s k a b x h p q =
+    let z = small st s k (fraction a b) h in
+    subst (λ (c : Fraction). Shared st k (Ok c)) (sym (ap₂ fraction (p (omega (arith, z.0, z.1))) (q (omega (arith, z.1))))) h
+
+-- ---- the stage, by what it is not
+pub first_underway : (stage : Stage) (I J : Type 0) (B : Plans) (v : Tables) (st su : Standing) → false ≡ sameb the_type stage Waiting → WholeIn stage I J B v st su → FirstUnderway I B v st
+first_underway Waiting I J B v st su e h = absurd (false≢true e)
+first_underway First I J B v st su e h = h.underway
+first_underway Second I J B v st su e h = h.underway
+
+pub in_second_stage : (stage : Stage) → false ≡ sameb the_type stage Waiting → false ≡ sameb the_type stage First → stage ≡ Second
+in_second_stage Waiting e f = absurd (false≢true e)
+in_second_stage First e f = absurd (false≢true f)
+in_second_stage Second e f = refl
+
+pub in_first_stage : (stage : Stage) → true ≡ sameb the_type stage First → stage ≡ First
+in_first_stage Waiting e = absurd (false≢true (sym e))
+in_first_stage First e = refl
+in_first_stage Second e = absurd (false≢true (sym e))

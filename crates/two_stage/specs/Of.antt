@@ -1,15 +1,16 @@
 -- What the fields of two-stage drawing stand for.
-use Rattle.std.specs.Prelude.{◌≡◌, ℕ, ◌-◌, ◌/◌, ◌≤◌, List, [], ◌∷◌, map, length, replicate, Option}
+use Rattle.std.specs.Prelude.{◌≡◌, ℕ, ◌-◌, ◌*◌, Bool, ◌/◌, ◌≤◌, List, [], ◌∷◌, map, length, replicate, None, Option, option_map, unwrap_or}
+use Rattle.std.specs.NonZero.{non_zero_u32_get}
 use Rattle.design.specs.Faults.{Refusal, first_of}
 use Rattle.design.specs.Lists.{total}
 use Rattle.design.specs.Design.{Plan, Standing, no_run, in_run}
 use Rattle.design.specs.declared.design.Design as Design
 use Rattle.design.specs.declared.row.Row.{Row}
-use Rattle.parts.specs.Parts.{bounds, same_cluster}
+use Rattle.parts.specs.Parts.{bounds, same_cluster, place_of}
 use Rattle.parts.specs.Series.{Plans, part_refusal}
-use Rattle.parts.specs.Running.{Tables, all_parts, standing_of}
-use Rattle.layers.specs.TwoStage.{cluster_row, first_refusal, product_refusal, stages_run}
-use Rattle.layers.specs.Stages.{in_first, in_second, FirstUnderway, InFirst, InSecond}
+use Rattle.parts.specs.Running.{Tables, all_parts, share_at, standing_of}
+use Rattle.layers.specs.TwoStage.{cluster_row, first_refusal, product_refusal, stages_run, too_large}
+use Rattle.layers.specs.Stages.{denominator_at, in_first, in_second, FirstUnderway, InFirst, InSecond}
 use Rattle.series.specs.Of.{tables_of}
 use Rattle.series.specs.Tables.{newly_cut, asked}
 use Rattle.two_stage.specs.declared.TwoStage.{TwoStage}
@@ -47,12 +48,16 @@ drawing G H s = in_first (H.plan s.second.below) (tables_of s.second) (G.tree s.
 pub record IsNew {A B : Type 0} (first : A) (second : B) (s : TwoStage A B) : Type 0 where
   pub over : s.first ≡ first
   pub within_over : s.second.below ≡ second
-  pub no_number : s.within ≡ 0
+  pub no_number : s.within ≡ None
   pub no_run : s.stage ≡ Waiting
+
+-- the number that is set, and 0 where none is
+abbrev pub number_set : {A B : Type 0} → TwoStage A B → ℕ
+number_set s = unwrap_or (option_map non_zero_u32_get s.within) 0
 
 -- the number is set, and no run stands; nothing else is changed
 pub record SetWithin {A B : Type 0} (m : ℕ) (old new : TwoStage A B) : Type 0 where
-  pub number : new.within ≡ m
+  pub number : number_set new ≡ m
   pub ended : new.stage ≡ Waiting
   pub first : new.first ≡ old.first
   pub second : new.second ≡ old.second
@@ -84,6 +89,10 @@ first_does G s q = G.plan s.first (map cluster_row (all_parts (tables_of s.secon
 -- the refusals that are left: of the first design, which does a; of the second, on each cluster; of the products
 abbrev pub opening_refusal : Plan → Plans → Tables → Option Refusal
 opening_refusal a B v = first_of (first_refusal v.bounds a ∷ part_refusal B (all_parts v) ∷ product_refusal a B (all_parts v) (length v.rows) ∷ [])
+
+-- the product of the unit k's denominators in both stages is too large, where the first design has the standing st
+abbrev pub large_product : Standing → Tables → ℕ → Bool
+large_product st v = too_large (λ k. denominator_at st (place_of 0 (all_parts v) k) * (share_at v k).denominator)
 
 -- the first design has begun as the plan a says, and the second accepts every cluster
 pub record Opened {A B : Type 0} (G : Design.Ghosts A) (H : Design.Ghosts B) (a : Plan) (old new : TwoStage A B) : Type 0 where

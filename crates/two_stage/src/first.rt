@@ -1,12 +1,13 @@
-ghost use Rattle.std.specs.Prelude.{◌≡◌, ℕ, ◌*◌, ◌^◌, ◌<◌, ◌≤◌, length, nat_lt, slice_index};
+ghost use Rattle.std.specs.Prelude.{◌≡◌, ℕ, ◌*◌, ◌^◌, ◌<◌, ◌≤◌, length, nat_lt};
 ghost use Rattle.design.specs.Faults.{Answers, refused_at};
 ghost use Rattle.design.specs.Lists.{first as first_that};
 ghost use Rattle.layers.specs.Stages.{units_of, denominator_at, Begins};
-ghost use Rattle.layers.specs.TwoStage.{first_refusal, too_large};
-ghost use Rattle.parts.specs.Parts.{place_of};
+ghost use Rattle.layers.specs.TwoStage.{first_refusal};
 ghost use Rattle.parts.specs.Running.{all_parts};
 ghost use Rattle.series.specs.Tables.{tables};
+ghost use Rattle.two_stage.specs.Of.{large_product};
 
+use design::check::refuse_at;
 use design::design::Design;
 use design::fault::{Fault, Reason};
 use design::row::Row;
@@ -26,42 +27,40 @@ pub fn begin_first<A: Design>(
     ensures whole { A.intact first.new }
     ensures settings { A.plan first.new ≡ A.plan first.old }
 {
-    match first.begin(heads, n) {
-        Ok(()) => Ok(()),
-        Err(f) => Err(f.passed_up(table.first_row(f.row as usize))),
-    }
+    first
+        .begin(heads, n)
+        .map_err(|f| f.passed_up(table.first_row(f.row as usize)))
 }
 
 // The denominator of the cluster j in the first stage, where there is one.
 fn denominator_of<A: Design>(first: &A, j: u32) -> u64
     ensures { A.intact first.now → j < units_of (A.tree first.now) → result ≡ denominator_at (A.tree first.now) j }
 {
-    match first.share(j) {
-        Ok((_, den)) => den,
-        Err(_) => 0,
-    }
+    first.share(j).map_or(0, |share| share.denominator)
 }
 
 // Whether the product of two denominators is larger than a denominator may be.
 fn is_too_large(a: u64, b: u64) -> bool
     ensures { result ≡ nat_lt (10 ^ 15) (a * b) }
 {
-    match a.checked_mul(b) {
-        Some(product) => product > LARGEST_DENOMINATOR,
-        None => true,
-    }
+    a.checked_mul(b)
+        .is_none_or(|product| product > LARGEST_DENOMINATOR)
+}
+
+// Whether the product of the denominators of the unit k is too large.
+fn has_large_product<A: Design>(first: &A, table: &Table, k: u32) -> bool
+    requires { k < length (tables table.now).rows }
+    ensures { A.intact first.now → units_of (A.tree first.now) ≡ length (all_parts (tables table.now)) → result ≡ large_product (A.tree first.now) (tables table.now) k }
+{
+    let cluster = table.part_of(k);
+    let whole = denominator_of(first, cluster as u32);
+    is_too_large(whole, table.prescribed(k as usize).denominator)
 }
 
 /// Refuses the first row whose product of denominators is too large.
 pub fn check_products<A: Design>(first: &A, table: &Table) -> Result<(), Fault>
-    ensures { A.intact first.now → units_of (A.tree first.now) ≡ length (all_parts (tables table.now)) → Answers (refused_at (first_that (length (tables table.now).rows) (too_large (λ k. denominator_at (A.tree first.now) (place_of 0 (all_parts (tables table.now)) k) * slice_index (tables table.now).dens k))) 16) (λ _. Unit {0}) result }
+    ensures { A.intact first.now → units_of (A.tree first.now) ≡ length (all_parts (tables table.now)) → Answers (refused_at (first_that (length (tables table.now).rows) (large_product (A.tree first.now) (tables table.now))) 16) (λ _. Unit {0}) result }
 {
-    for k in 0..table.units() {
-        let j = table.part_of(k as u32);
-        let (_, den) = table.prescribed(k);
-        if is_too_large(denominator_of(first, j as u32), den) {
-            return Err(Fault::at(Reason::DenominatorTooLarge, k as u32));
-        }
-    }
-    Ok(())
+    let large = (0..table.units()).find(|k| has_large_product(first, table, *k as u32));
+    refuse_at(large, Reason::DenominatorTooLarge)
 }

@@ -1,7 +1,7 @@
 //! Two-stage drawing over any two designs, as code.
 #![tactic(auto)]
 
-ghost use Rattle.std.specs.Prelude.{◌≡◌, ◌*◌, ◌^◌, ◌<◌, ◌≤◌, length, IfOk, OnErr};
+ghost use Rattle.std.specs.Prelude.{◌≡◌, ◌≤◌, length, IfOk, OnErr};
 ghost use Rattle.design.specs.Faults.{Answers};
 ghost use Rattle.design.specs.Lists.{total};
 ghost use Rattle.layers.specs.TwoStage.{within_refusal, clusters_refusal, two_stage_plan};
@@ -9,17 +9,19 @@ ghost use Rattle.layers.proofs.TwoStagePlans.{two_stage_sound};
 ghost use Rattle.parts.specs.Running.{Moved, all_parts};
 ghost use Rattle.series.specs.Of.{plans, tables_of};
 ghost use Rattle.two_stage.specs.Exact.{exact_stages};
-ghost use Rattle.two_stage.specs.Of.{stands, IsWhole, IsDrawing, drawing, IsNew, SetWithin, CutInto, SameLayer, first_does, opening_refusal, Opened, SameSettings};
+ghost use Rattle.two_stage.specs.Of.{stands, IsWhole, IsDrawing, drawing, IsNew, SetWithin, number_set, CutInto, SameLayer, first_does, opening_refusal, Opened, SameSettings};
 
 use design::check::check_list;
 use design::design::Design;
 use design::fault::{Fault, Reason};
+use design::fraction::Fraction;
 use design::row::Row;
 use first::{begin_first, check_products};
 use heads::{Heads, MOST_CLUSTERS};
 use series::Series;
 use series::kind::PartKind;
 use std::alloc::{AllocError, Global};
+use std::num::NonZeroU32;
 
 mod first;
 mod heads;
@@ -27,8 +29,8 @@ mod heads;
 /// The largest number that may be taken of each cluster.
 pub const MOST_WITHIN: u32 = 1024;
 
-/// What a run of both stages has come to.
-#[derive(Clone, Copy)]
+/// What a run of both stages has come to. An enum, and no closure that runs the stage, as each stage stands for a tree of its own.
+#[derive(Clone, Copy, PartialEq, Eq, Debug)]
 pub enum Stage {
     /// No run stands.
     Waiting,
@@ -44,15 +46,8 @@ pub struct TwoStage<A: Design, B: Design> {
     first: A,
     second: Series<B>,
     heads: Heads,
-    within: u32,
+    within: Option<NonZeroU32>,
     stage: Stage,
-}
-
-// a times b, where 64 bits hold it.
-fn times(a: u64, b: u64) -> u64
-    ensures { a * b < 2 ^ 64 → result ≡ a * b }
-{
-    a.wrapping_mul(b)
 }
 
 impl<A: Design, B: Design> TwoStage<A, B> {
@@ -69,7 +64,7 @@ impl<A: Design, B: Design> TwoStage<A, B> {
             first,
             second,
             heads,
-            within: 0,
+            within: None,
             stage: Stage::Waiting,
         })
     }
@@ -82,20 +77,20 @@ impl<A: Design, B: Design> TwoStage<A, B> {
         if m == 0 || m > MOST_WITHIN {
             return Err(Fault::of(Reason::WithinOutOfRange));
         }
-        self.within = m;
+        self.within = NonZeroU32::new(m);
         self.stage = Stage::Waiting;
         Ok(())
     }
 
     // Cuts a list into clusters, and answers how many of them are to be drawn.
     fn cut(&mut self, list: &[Row], n: u32) -> Result<u32, Fault>
-        ensures answers { Answers (clusters_refusal self.old.within list.now n) (λ q. CutInto self.old.within q list.now n self.new) result }
+        ensures answers { Answers (clusters_refusal (number_set self.old) list.now n) (λ q. CutInto (number_set self.old) q list.now n self.new) result }
         ensures same { SameLayer self.old self.new }
     {
-        let m = self.within;
-        if m == 0 {
+        let Some(m) = self.within else {
             return Err(Fault::of(Reason::NothingSet));
-        }
+        };
+        let m = m.get();
         check_list(list, n)?;
         self.second.table.cut(PartKind::Cluster, list)?;
         if n % m != 0 {
@@ -145,13 +140,13 @@ impl<A: Design, B: Design> TwoStage<A, B> {
 }
 
 impl<A: Design, B: Design> Design for TwoStage<A, B> {
-    ghost plan = { λ s. two_stage_plan s.within (A.plan s.first) (B.plan s.second.below) };
+    ghost plan = { λ s. two_stage_plan (number_set s) (A.plan s.first) (B.plan s.second.below) };
 
     ghost tree = { λ s. stands A.Design B.Design s };
 
     ghost intact = { λ s. IsWhole A.Design B.Design s };
 
-    ghost sound = { λ s. two_stage_sound (A.plan s.first) (B.plan s.second.below) (A.sound s.first) (B.sound s.second.below) s.within };
+    ghost sound = { λ s. two_stage_sound (A.plan s.first) (B.plan s.second.below) (A.sound s.first) (B.sound s.second.below) (number_set s) };
 
     ghost exact = { λ s h. exact_stages s.stage (A.intact s.first) (B.intact s.second.below) (B.plan s.second.below) (B.sound s.second.below) (tables_of s.second) (A.tree s.first) (B.tree s.second.below) h (A.exact s.first) (B.exact s.second.below) };
 
@@ -182,23 +177,19 @@ impl<A: Design, B: Design> Design for TwoStage<A, B> {
         }
     }
 
-    fn share(&self, k: u32) -> Result<(u64, u64), Fault> {
-        if k as usize >= self.second.table.units() {
+    fn share(&self, k: u32) -> Result<Fraction, Fault> {
+        if self.stage == Stage::Waiting || k as usize >= self.second.table.units() {
             return Err(Fault::of(Reason::NoSuchUnit));
         }
-        let j = self.second.table.part_of(k);
-        match self.stage {
-            Stage::Waiting => Err(Fault::of(Reason::NoSuchUnit)),
-            Stage::First => {
-                let (num, den) = self.first.share(j as u32)?;
-                let (part, whole) = self.second.table.prescribed(k as usize);
-                Ok((times(num, part), times(den, whole)))
-            }
-            Stage::Second => {
-                let (_, den) = self.first.share(j as u32)?;
-                let (part, whole) = self.second.share(k)?;
-                Ok((times(den, part), times(den, whole)))
-            }
+        let cluster = self.second.table.part_of(k);
+        let first = self.first.share(cluster as u32)?;
+        if self.stage == Stage::First {
+            let within = self.second.table.prescribed(k as usize);
+            return Ok(first.times(within));
         }
+        // The first stage has come to its outcome, so its share is the whole.
+        let taken = Fraction::new(first.denominator, first.denominator);
+        let within = self.second.share(k)?;
+        Ok(taken.times(within))
     }
 }

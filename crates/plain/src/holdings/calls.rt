@@ -1,4 +1,4 @@
-ghost use Rattle.std.specs.Prelude.{◌≡◌, ◌≤◌, true, false, length, set as replaced, IfOk, vec_len, vec_capacity, OnErr, slice_index};
+ghost use Rattle.std.specs.Prelude.{◌≡◌, ◌≤◌, true, false, length, set as replaced, IfOk, OnErr, slice_index};
 ghost use Rattle.design.specs.Faults.{Answers};
 ghost use Rattle.design.specs.Lists.{total as total_of};
 ghost use Rattle.methods.specs.Holdings.{HeldShare};
@@ -6,19 +6,24 @@ ghost use Rattle.methods.specs.Plain.{goals as goals_of, goal_refusal, plain_ref
 ghost use Rattle.plain.specs.Of.{runs, whole, held, HoldsGoals};
 
 use super::Holdings;
+use bounded::BoundedVec;
 use design::check::{MOST_ROWS, check_list};
 use design::fault::{Fault, Reason};
+use design::fraction::Fraction;
 use design::row::Row;
 use std::alloc::{AllocError, Global};
 
 // Notes the goal of each unit, or refuses the first row whose goal is above the total.
-fn note_goals(list: &[Row], n: u32, total: u32, goals: &mut Vec<u32>) -> Result<(), Fault>
+fn note_goals(
+    list: &[Row],
+    n: u32,
+    total: u32,
+    goals: &mut BoundedVec<u32, MOST_ROWS>,
+) -> Result<(), Fault>
     requires few { length list.now ≤ 1024 }
-    requires room { 1024 ≤ vec_capacity goals.old }
     requires total { total ≡ total_of list.now }
-    ensures answers { Answers (goal_refusal list.now n) (λ _. goals.new.items ≡ goals_of list.now n) result }
-    ensures few { vec_len goals.new ≤ 1024 }
-    ensures capacity { vec_capacity goals.new ≡ vec_capacity goals.old }
+    ensures answers { Answers (goal_refusal list.now n) (λ _. goals.new ≡ goals_of list.now n) result }
+    ensures few { length goals.new ≤ 1024 }
 {
     goals.clear();
     for (i, row) in list.iter().enumerate() {
@@ -26,22 +31,19 @@ fn note_goals(list: &[Row], n: u32, total: u32, goals: &mut Vec<u32>) -> Result<
         if goal > total as u64 {
             return Err(Fault::at(Reason::ShareAboveOne, i as u32));
         }
-        goals.push_reserved(goal as u32);
+        goals.push(goal as u32);
     }
     Ok(())
 }
 
+// What is not there is read as 0, as the definitions read it, so that no clause needs a premise.
 impl Holdings {
     /// No run, and room for every list that begin accepts, so that no later call needs memory.
     pub fn new(heap: Global) -> Result<Self, AllocError>
         ensures { IfOk result (λ h. runs h ≡ false) }
     {
-        let holds = Vec::with_capacity(heap, MOST_ROWS)?;
-        Ok(Holdings {
-            holds,
-            total: 0,
-            running: false,
-        })
+        let holds = BoundedVec::new(heap)?;
+        Ok(Holdings { holds, total: None })
     }
 
     /// Checks a list as every plain design does. Accepted, each unit holds its goal; refused, there is no run.
@@ -49,23 +51,24 @@ impl Holdings {
         ensures answers { Answers (plain_refusal list.now n) (λ _. HoldsGoals list.now n self.new) result }
         ensures ended { OnErr result (runs self.new ≡ false) }
     {
-        self.running = false;
-        self.total = check_list(list, n)?;
-        note_goals(list, n, self.total, &mut self.holds)?;
-        self.running = true;
+        self.total = None;
+        let total = check_list(list, n)?;
+        note_goals(list, n, total, &mut self.holds)?;
+        self.total = Some(total);
         Ok(())
     }
 
     pub fn is_running(&self) -> bool
         ensures { result ≡ runs self.now }
     {
-        self.running
+        self.total.is_some()
     }
 
+    /// The total of the run, and 0 where none stands.
     pub fn total(&self) -> u32
         ensures { result ≡ whole self.now }
     {
-        self.total
+        self.total.unwrap_or(0)
     }
 
     pub fn units(&self) -> usize
@@ -78,7 +81,7 @@ impl Holdings {
     pub fn get(&self, i: usize) -> u32
         ensures { result ≡ slice_index (held self.now) i }
     {
-        if i < self.units() { self.holds[i] } else { 0 }
+        self.holds.as_slice().get(i).copied().unwrap_or(0)
     }
 
     /// Leaves the unit i so much, and changes nothing past the last.
@@ -87,19 +90,16 @@ impl Holdings {
         ensures whole { whole self.new ≡ whole self.old }
         ensures runs { runs self.new ≡ runs self.old }
     {
-        if i < self.units() {
-            self.holds[i] = left;
-        }
+        self.holds.set(i, left);
     }
 
     /// The share of the unit k: what it holds, over the total.
-    pub fn share(&self, k: u32) -> Result<(u64, u64), Fault>
+    pub fn share(&self, k: u32) -> Result<Fraction, Fault>
         ensures { HeldShare (runs self.now) (whole self.now) (held self.now) k result }
     {
-        if self.running && (k as usize) < self.units() {
-            Ok((self.get(k as usize) as u64, self.total as u64))
-        } else {
-            Err(Fault::of(Reason::NoSuchUnit))
+        match (self.total, self.holds.as_slice().get(k as usize)) {
+            (Some(total), Some(held)) => Ok(Fraction::new(u64::from(*held), u64::from(total))),
+            _ => Err(Fault::of(Reason::NoSuchUnit)),
         }
     }
 }

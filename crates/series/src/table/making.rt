@@ -1,59 +1,33 @@
-ghost use Rattle.std.specs.Prelude.{◌≡◌, ◌+◌, ◌<◌, ◌≤◌, [], length, replicate, IfOk, OnErr, vec_len, vec_capacity};
+ghost use Rattle.std.specs.Prelude.{◌≡◌, ◌+◌, ◌<◌, ◌≤◌, [], length, IfOk, OnErr};
 ghost use Rattle.design.specs.Faults.{Answers};
 ghost use Rattle.parts.specs.Parts.{bounds as bounds_of};
 ghost use Rattle.series.specs.Kinds.{alike, cut_refusal};
 ghost use Rattle.series.specs.Tables.{tables, newly_cut};
 
-use super::Table;
+use super::{MOST_BOUNDS, Table};
 use crate::kind::PartKind;
-use design::check::{MOST_ROWS, check_count};
+use bounded::BoundedVec;
+use design::check::check_count;
 use design::fault::Fault;
+use design::fraction::Fraction;
 use design::row::Row;
 use std::alloc::{AllocError, Global};
 
-/// n times x, and nothing else.
-pub fn fill<T: Copy>(v: &mut Vec<T>, n: usize, x: T)
-    requires { n ≤ vec_capacity v.old }
-    ensures items { v.new.items ≡ replicate n x }
-    ensures len { vec_len v.new ≡ n }
-    ensures capacity { vec_capacity v.new ≡ vec_capacity v.old }
-{
-    v.clear();
-    for _k in 0..n {
-        v.push_reserved(x);
-    }
-}
-
-/// The items, and nothing else.
-pub fn copy<T: Copy>(items: &[T], v: &mut Vec<T>)
-    requires { length items.now ≤ vec_capacity v.old }
-    ensures items { v.new.items ≡ items.now }
-    ensures len { vec_len v.new ≡ length items.now }
-    ensures capacity { vec_capacity v.new ≡ vec_capacity v.old }
-{
-    v.clear();
-    for x in items {
-        v.push_reserved(*x);
-    }
-}
-
 // The first row of each part, and at last the row past the list.
-fn note_bounds(kind: PartKind, list: &[Row], bounds: &mut Vec<u32>)
+fn note_bounds(kind: PartKind, list: &[Row], bounds: &mut BoundedVec<u32, MOST_BOUNDS>)
     requires some { 0 < length list.now }
     requires few { length list.now ≤ 1024 }
-    requires room { 1025 ≤ vec_capacity bounds.old }
-    ensures items { bounds.new.items ≡ bounds_of (alike kind) list.now }
-    ensures len { vec_len bounds.new ≤ length list.now + 1 }
-    ensures capacity { vec_capacity bounds.new ≡ vec_capacity bounds.old }
+    ensures items { bounds.new ≡ bounds_of (alike kind) list.now }
+    ensures len { length bounds.new ≤ length list.now + 1 }
 {
     bounds.clear();
-    bounds.push_reserved(0);
-    for i in 1..list.len() {
-        if !kind.joins(list[i - 1], list[i]) {
-            bounds.push_reserved(i as u32);
+    bounds.push(0);
+    for (i, pair) in list.windows(2).enumerate() {
+        if !kind.joins(pair[0], pair[1]) {
+            bounds.push(i as u32 + 1);
         }
     }
-    bounds.push_reserved(list.len() as u32);
+    bounds.push(list.len() as u32);
 }
 
 impl Table {
@@ -61,22 +35,15 @@ impl Table {
     pub fn new(heap: Global) -> Result<Self, AllocError>
         ensures { IfOk result (λ t. (tables t).rows ≡ []) }
     {
-        let rows = Vec::with_capacity(heap, MOST_ROWS)?;
-        let nums = Vec::with_capacity(heap, MOST_ROWS)?;
-        let dens = Vec::with_capacity(heap, MOST_ROWS)?;
-        let taken = Vec::with_capacity(heap, MOST_ROWS)?;
-        let mut bounds = Vec::with_capacity(heap, MOST_ROWS + 1)?;
-        let samples = Vec::with_capacity(heap, MOST_ROWS)?;
-        let chosen = Vec::with_capacity(heap, MOST_ROWS)?;
-        bounds.push_reserved(0);
+        let mut bounds = BoundedVec::new(heap)?;
+        bounds.push(0);
         Ok(Table {
-            rows,
-            nums,
-            dens,
-            taken,
+            rows: BoundedVec::new(heap)?,
+            shares: BoundedVec::new(heap)?,
+            taken: BoundedVec::new(heap)?,
             bounds,
-            samples,
-            chosen,
+            samples: BoundedVec::new(heap)?,
+            chosen: BoundedVec::new(heap)?,
             stage: 0,
         })
     }
@@ -87,14 +54,13 @@ impl Table {
         requires few { length list.now ≤ 1024 }
         ensures { tables self.new ≡ newly_cut (alike kind) list.now }
     {
-        copy(list, &mut self.rows);
-        fill(&mut self.nums, list.len(), 0);
-        fill(&mut self.dens, list.len(), 0);
-        fill(&mut self.taken, list.len(), false);
+        self.rows.copy_from(list);
+        self.shares.fill(list.len(), Fraction::new(0, 0));
+        self.taken.fill(list.len(), false);
         note_bounds(kind, list, &mut self.bounds);
         let count = self.bounds.len() - 1;
-        fill(&mut self.samples, count, 0);
-        fill(&mut self.chosen, count, true);
+        self.samples.fill(count, 0);
+        self.chosen.fill(count, true);
         self.stage = 0;
     }
 

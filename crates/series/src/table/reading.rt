@@ -1,24 +1,24 @@
-ghost use Rattle.std.specs.Prelude.{◌≡◌, ℕ, ◌<◌, length, replicate, MatchBool, ◌==◌, slice_index};
+ghost use Rattle.std.specs.Prelude.{◌≡◌, ℕ, ◌+◌, ◌<◌, ◌≤◌, length, replicate, MatchBool, ◌==◌};
 ghost use Rattle.parts.specs.Bounds.{Rising};
-ghost use Rattle.parts.specs.Running.{all_parts, first_row_of, has_present, part_at, sample_of};
+ghost use Rattle.parts.specs.Running.{all_parts, first_row_of, has_present, part_at, sample_of, share_at};
 ghost use Rattle.parts.specs.Seats.{Seated};
 ghost use Rattle.series.specs.Tables.{tables, asked};
 
 use super::Table;
-use super::making::{copy, fill};
+use design::fraction::Fraction;
 use design::row::Row;
+use std::ops::Range;
 
 // The part in which the row k lies, where `bounds` are the first rows of the parts, and at last the row past the list.
 fn find_part(bounds: &[u32], k: u32) -> usize
     ensures { (e : ℕ) → Rising bounds.now e → k < e → Seated bounds.now k result }
 {
-    let mut j = 0;
-    while j + 2 < bounds.len() && bounds[j + 1] <= k {
-        j += 1;
-    }
-    j
+    bounds
+        .partition_point(|first| *first <= k)
+        .saturating_sub(1)
 }
 
+// What is not there is read as 0, as the definitions read it, so that no clause needs a premise.
 impl Table {
     /// The number of units.
     pub fn units(&self) -> usize
@@ -38,11 +38,18 @@ impl Table {
     pub fn first_row(&self, j: usize) -> u32
         ensures { result ≡ first_row_of (tables self.now) j }
     {
-        if j < self.bounds.len() {
-            self.bounds[j]
-        } else {
-            0
-        }
+        self.bounds.as_slice().get(j).copied().unwrap_or(0)
+    }
+
+    // The numbers of the rows of part j: from its first row up to, and not including, the first row of the next.
+    pub(crate) fn rows_of(&self, j: usize) -> Range<usize>
+        requires { j < length (tables self.now).chosen }
+        ensures start { result.start ≡ first_row_of (tables self.now) j }
+        ensures end { result.end ≡ first_row_of (tables self.now) (j + 1) }
+        ensures forward { result.start ≤ result.end }
+        ensures within { result.end ≤ length (tables self.now).rows }
+    {
+        self.first_row(j) as usize..self.first_row(j + 1) as usize
     }
 
     /// The rows of part j, and none past the last part.
@@ -50,9 +57,9 @@ impl Table {
         ensures { result.now ≡ (part_at (tables self.now) j).rows }
     {
         if j < self.count() {
-            &self.rows[self.first_row(j) as usize..self.first_row(j + 1) as usize]
+            &self.rows.as_slice()[self.rows_of(j)]
         } else {
-            &self.rows[0..0]
+            &[]
         }
     }
 
@@ -60,29 +67,22 @@ impl Table {
     pub fn sample(&self, j: usize) -> u32
         ensures { result ≡ sample_of (tables self.now) j }
     {
-        if j < self.samples.len() {
-            self.samples[j]
-        } else {
-            0
-        }
+        self.samples.as_slice().get(j).copied().unwrap_or(0)
     }
 
     /// The part of the unit k, and an open answer past the last unit.
     pub fn part_of(&self, k: u32) -> usize
         ensures { k < length (tables self.now).rows → Seated (tables self.now).bounds k result }
     {
-        find_part(&self.bounds, k)
+        find_part(self.bounds.as_slice(), k)
     }
 
-    /// The prescribed numerator and denominator of the unit k in its part.
-    pub fn prescribed(&self, k: usize) -> (u64, u64)
-        ensures { result ≡ (slice_index (tables self.now).nums k, slice_index (tables self.now).dens k) }
+    /// The prescribed share of the unit k in its part, and 0 of 0 past the last unit.
+    pub fn prescribed(&self, k: usize) -> Fraction
+        ensures { result ≡ share_at (tables self.now) k }
     {
-        if k < self.units() {
-            (self.nums[k], self.dens[k])
-        } else {
-            (0, 0)
-        }
+        let none = Fraction::new(0, 0);
+        self.shares.as_slice().get(k).copied().unwrap_or(none)
     }
 
     /// Whether there is a present part.
@@ -100,7 +100,7 @@ impl Table {
     {
         let fits = self.count() == samples.len();
         if fits {
-            copy(samples, &mut self.samples);
+            self.samples.copy_from(samples);
         }
         fits
     }
@@ -110,6 +110,6 @@ impl Table {
         ensures { tables self.new ≡ asked (tables self.old) (replicate (length (all_parts (tables self.old))) sample) }
     {
         let count = self.count();
-        fill(&mut self.samples, count, sample);
+        self.samples.fill(count, sample);
     }
 }

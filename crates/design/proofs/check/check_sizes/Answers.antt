@@ -1,12 +1,12 @@
-use Rattle.std.proofs.lemmas.Bool.{eq-eqb, ne_eqb}
-use Rattle.design.specs.Lists.{no_size}
-use Rattle.design.proofs.Firsts.{first_more, first_here, answers_at}
+use Rattle.std.proofs.Common.{rules, ◌==◌, subst, ◌∙◌}
+use borrow.Author.Tests.{tests}
+use Rattle.std.proofs.lemmas.Iterator.{YieldsList-from_slice}
+use Rattle.std.proofs.lemmas.Iterator.Search.{position_from_yields_List}
+use Rattle.design.proofs.Firsts.{first_item}
+use Rattle.design.specs.Faults.{Answers, refused_at}
 use Rattle.design.proofs.check.check_sizes.Goals as goal
 
-pub returns-then-row-eq0 : goal.returns-then-row-eq0
-returns-then-row-eq0 c =
-    answers_at 4 _ _ _ _ (first_here _ _ (no_size c.args.list.now) c.loop-i.invariant (eq-eqb _ _ c.if-row-eq0.true) c.loop-i-test.true)
-    c.at.ensures
-
-pub loop-i-preserved : goal.loop-i-preserved
-loop-i-preserved c = first_more c.loop-i.i (no_size c.args.list.now) c.loop-i.invariant (ne_eqb _ _ c.if-row-eq0.false)
+pub returns : goal.returns
+returns c =
+    let e = position_from_yields_List (λ r. r.size == 0) _ _ _ c.position.ensures.ran (YieldsList-from_slice c.args.list.now cc) (λ x b q k. search (rules, tests)) ∙ first_item (λ r. r.size == 0) c.args.list.now (record { stratum = 0; cluster = 0; size = 0 }) in
+    subst (λ o. Answers (refused_at o 4) (λ _. Unit {0}) c.refuse_at.result) e c.refuse_at.ensures

@@ -15,15 +15,15 @@ returns-then-j-count g c =
     let v = tables_of s in
     let j = c.next_set-j.result in
     let B = g.D.Design.plan s.below in
-    let next = subst (λ (xs : List Bool). NextChosen xs c.args.from j) c.deref.ensures.value c.next_set-j.ensures in
+    let next = subst (λ (xs : List Bool). NextChosen xs c.args.from j) c.as_slice.ensures.items c.next_set-j.ensures in
     record {
       forward = next.low;
       same = stage_kept v j;
       settings = c.begin.ensures.settings;
       entered = λ h.
           enter_part B (g.D.Design.plan c.begin.new.self) (g.met.D.Design.sound s.below) v h.loaded
-          (omega (arith, t.taken.ok.0, t.rows.ok.0, t.taken_all)) (omega (arith, t.chosen.ok.0, t.bounds.ok.0, t.chosen_all)) c.args.from j next h.none
-          c.begin.result (g.D.Design.tree c.begin.new.self) (omega (arith, c.if-j-count.true, c.count.ensures, counted t, t.chosen.ok.0))
+          t.taken_all t.chosen_all c.args.from j next h.none
+          c.begin.result (g.D.Design.tree c.begin.new.self) (omega (arith, c.if-j-count.true, c.count.ensures, counted t))
           (subst (λ (list : List Row). Began (B list (sample_of v j)) c.begin.result (g.D.Design.tree c.begin.new.self)) c.part.ensures
           (subst (λ (n : ℕ). Began (B c.part.result.now n) c.begin.result (g.D.Design.tree c.begin.new.self)) c.sample.ensures c.begin.ensures.begun))
           c.begin.ensures.settings (g.D.Design.intact c.begin.new.self) c.begin.ensures.whole;
@@ -35,13 +35,13 @@ returns-else-j-count g c =
     let t = s.table in
     let v = tables_of s in
     let j = c.next_set-j.result in
-    let next = subst (λ (xs : List Bool). NextChosen xs c.args.from j) c.deref.ensures.value c.next_set-j.ensures in
+    let next = subst (λ (xs : List Bool). NextChosen xs c.args.from j) c.as_slice.ensures.items c.next_set-j.ensures in
     record {
       forward = next.low;
       same = stage_kept v j;
       settings = refl;
       entered = λ h.
           entered_none (g.D.Design.plan s.below) (g.met.D.Design.sound s.below) v h.loaded
-          (omega (arith, t.taken.ok.0, t.rows.ok.0, t.taken_all)) (omega (arith, t.chosen.ok.0, t.bounds.ok.0, t.chosen_all)) c.args.from j next h.none
-          {U = Unit {0}} tt (g.D.Design.intact s.below) (g.D.Design.tree s.below) (omega (arith, c.if-j-count.false, c.count.ensures, counted t, t.chosen.ok.0));
+          t.taken_all t.chosen_all c.args.from j next h.none
+          {U = Unit {0}} tt (g.D.Design.intact s.below) (g.D.Design.tree s.below) (omega (arith, c.if-j-count.false, c.count.ensures, counted t));
     }

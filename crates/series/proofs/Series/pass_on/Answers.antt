@@ -1,17 +1,15 @@
-use Rattle.std.proofs.Common.{◌+◌, vec_items, arith}
+use Rattle.std.proofs.Common.{◌+◌, arith}
 use Rattle.parts.specs.Running.{with_taken, run_from, so_far}
 use Rattle.series.specs.Of.{IsUnderway, tables_of, standing}
-use Rattle.series.proofs.Tabled.{bounded}
 use Rattle.series.proofs.Moves.{passing, moved_trans, same_taken}
 use Rattle.series.proofs.Series.pass_on.Goals as goal
 
 pub note_taken-requires : goal.note_taken-requires
 note_taken-requires g c =
     let t = c.args.self.now.table in
-    let b = bounded t t.stage c.requires in
     record {
-      forward = omega (arith, c.first_row-first.ensures, c.first_row-past.ensures, b.0);
-      within = omega (arith, c.first_row-past.ensures, b.1, t.taken_all);
+      forward = c.rows_of-rows.ensures.forward;
+      within = omega (arith, c.rows_of-rows.ensures.within, t.taken_all);
       few = omega (arith, t.taken_all, t.rows_few);
     }
 
@@ -25,11 +23,11 @@ returns g c =
     let st = g.D.Design.tree s.below in
     record {
       forward = omega (arith, c.enter.ensures.forward);
-      same = same_taken v (vec_items c.note_taken.new.flags) (tables_of x) c.enter.ensures.same;
+      same = same_taken v (c.note_taken.new.flags) (tables_of x) c.enter.ensures.same;
       settings = c.enter.ensures.settings;
       passed = λ u over.
-          let n = passing B v (g.D.Design.intact s.below) (vec_items c.note_taken.new.flags) c.first_row-first.result c.first_row-past.result st u
-          (omega (arith, c.requires, t.bounds.ok.0, t.chosen_all)) c.first_row-first.ensures c.first_row-past.ensures over c.note_taken.ensures.noted in
-          moved_trans c.enter.result (IsUnderway g.D.Design x) (standing g.D.Design x) (run_from B v (v.stage + 1) (so_far (with_taken v (vec_items c.note_taken.new.flags)))) (standing g.D.Design s)
+          let n = passing B v (g.D.Design.intact s.below) (c.note_taken.new.flags) c.rows_of-rows.result.start c.rows_of-rows.result.end st u
+          (omega (arith, c.requires, t.chosen_all)) c.rows_of-rows.ensures.start c.rows_of-rows.ensures.end over c.note_taken.ensures.noted in
+          moved_trans c.enter.result (IsUnderway g.D.Design x) (standing g.D.Design x) (run_from B v (v.stage + 1) (so_far (with_taken v (c.note_taken.new.flags)))) (standing g.D.Design s)
           (c.enter.ensures.entered (record { loaded = n.loaded; none = n.none })) n.stands;
     }

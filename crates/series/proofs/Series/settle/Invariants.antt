@@ -1,4 +1,4 @@
-use Rattle.std.proofs.Common.{◌≡◌, ◌-◌, vec_len}
+use Rattle.std.proofs.Common.{◌≡◌, ◌-◌, length}
 use Rattle.series.specs.Of.{IsUnderway, SameList, plans, standing, tables_of}
 use Rattle.series.proofs.Series.settle.Given as goal
 
@@ -9,4 +9,4 @@ invariant-loop-self g l =
     × (IsUnderway g.D.Design l.initial.self → IsUnderway g.D.Design l.self × (standing g.D.Design l.self ≡ standing g.D.Design l.initial.self))
 
 abbrev pub decreases-loop-self : goal.decreases-loop-self
-decreases-loop-self g l = vec_len l.self.table.bounds - l.self.table.stage
+decreases-loop-self g l = length l.self.table.bounds - l.self.table.stage

@@ -1,5 +1,7 @@
-use Rattle.std.proofs.Common.{ℕ, ◌-◌, ◌<◌, cond, ltb, length, Ok, sym, ◌∙◌, subst, ap₂, arith}
+use Rattle.std.proofs.Common.{◌-◌, ◌<◌, cond, ltb, length, Ok, sym, ◌∙◌, subst, ap, arith}
 use Rattle.design.specs.Design.{Shared}
+use Rattle.design.specs.declared.fraction.Fraction.{Fraction}
+use Rattle.parts.specs.Series.{fraction}
 use Rattle.parts.specs.Running.{is_chosen, so_far}
 use Rattle.parts.proofs.Stepping.{share_here, share_aside, seat_intact}
 use Rattle.series.specs.Of.{tables_of, standing}
@@ -29,7 +31,7 @@ returns-else-j-self g c h =
     let j = c.part_of-j.result in
     let l : k < length v.rows = omega (arith, c.if-k-units.false, c.units.ensures) in
     let L = h.underway.loaded in
-    subst (λ (a : ℕ × ℕ). Shared (standing g.D.Design s) k (Ok a))
+    subst (λ (a : Fraction). Shared (standing g.D.Design s) k (Ok a))
     (sym (c.share_aside.ensures
-    ∙ ap₂ (λ (num den : ℕ). (cond (ltb j v.stage) (cond (so_far v k) den 0) (cond (is_chosen v j) num 0), den)) (L.nums_are k l) (L.dens_are k l)))
+    ∙ ap (λ (p : Fraction). fraction (cond (ltb j v.stage) (cond (so_far v k) p.denominator 0) (cond (is_chosen v j) p.numerator 0)) p.denominator) (L.shares_are k l)))
     (share_aside B (g.met.D.Design.sound s.below) v I k j (c.part_of-j.ensures l) st h.underway c.if-j-self.false)

@@ -1,22 +1,9 @@
-use Rattle.std.proofs.Common.{Bool, false, List, get_or, vec_items, ap, ◌∙◌}
+use Rattle.std.proofs.Common.{Bool, false, List, get_or, ap, ◌∙◌}
 use Rattle.parts.specs.Running.{run_from}
 use Rattle.parts.specs.Series.{nothing}
 use Rattle.series.specs.Of.{IsIntact, plans, standing, tables_of}
 use Rattle.series.proofs.Moves.{moved_trans, same_trans, same_taken, none_taken, run_fresh, loaded_taken}
 use Rattle.series.proofs.Series.start.Goals as goal
-
-pub returns-in_err-enter : goal.returns-in_err-enter
-returns-in_err-enter g c =
-    let s = c.args.self.now in
-    let taken = vec_items c.fill.new.v in
-    record {
-      same = same_taken (tables_of s) taken (tables_of c.enter.new.self) c.enter.ensures.same;
-      settings = c.enter.ensures.settings;
-      started = λ h. absurd (c.in_err-enter.ensures.entered (record {
-        loaded = loaded_taken (plans g.D.Design s) (tables_of s) taken h;
-        none = λ k l. ap (λ (xs : List Bool). get_or xs k false) c.fill.ensures.items ∙ none_taken c.units-units.result k;
-      }));
-    }
 
 pub returns : goal.returns
 returns g c =
@@ -25,15 +12,15 @@ returns g c =
     let x = c.settle.new.self in
     let v = tables_of s in
     let B = plans g.D.Design s in
-    let taken = vec_items c.fill.new.v in
+    let taken = c.fill.new.self in
     record {
       same = same_trans v (tables_of e) (tables_of x) (same_taken v taken (tables_of e) c.enter.ensures.same) c.settle.ensures.same;
       settings = c.settle.ensures.settings ∙ c.enter.ensures.settings;
       started = λ h.
           let m = c.in_ok-enter.ensures.entered (record {
             loaded = loaded_taken B v taken h;
-            none = λ k l. ap (λ (xs : List Bool). get_or xs k false) c.fill.ensures.items ∙ none_taken c.units-units.result k;
+            none = λ k l. ap (λ (xs : List Bool). get_or xs k false) c.fill.ensures ∙ none_taken c.units-units.result k;
           }) in
           moved_trans c.settle.result (IsIntact g.D.Design x) (standing g.D.Design x) (standing g.D.Design e) (run_from B v 0 nothing) (c.settle.ensures.settled m.0)
-          (m.1 ∙ run_fresh B v taken c.units-units.result c.fill.ensures.items);
+          (m.1 ∙ run_fresh B v taken c.units-units.result c.fill.ensures);
     }

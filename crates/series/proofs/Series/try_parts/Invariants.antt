@@ -6,5 +6,5 @@ use Rattle.series.proofs.Series.try_parts.Given as goal
 abbrev pub invariant-loop-j : goal.invariant-loop-j
 invariant-loop-j g l =
     (plans g.D.Design l.self ≡ plans g.D.Design l.initial.self)
-    × (tables_of l.self ≡ with_shares (tables_of l.initial.self) (tables_of l.self).nums (tables_of l.self).dens)
-    × Trial (plans g.D.Design l.initial.self) (tables_of l.initial.self) (tables_of l.self).nums (tables_of l.self).dens l.j
+    × (tables_of l.self ≡ with_shares (tables_of l.initial.self) (tables_of l.self).shares)
+    × Trial (plans g.D.Design l.initial.self) (tables_of l.initial.self) (tables_of l.self).shares l.j

@@ -18,8 +18,7 @@ returns-clause-begun g c =
     let B : Plans = D.plan c.args.self.now.strata.below in
     let cut = c.cut.new.self.strata in
     let tried = c.try_parts.new.self in
-    let nums = (tables_of tried).nums in
-    let dens = (tables_of tried).dens in
+    let shares = (tables_of tried).shares in
     let cuts = accepted _ _ c.in_ok-cut.field-0 c.in_ok-cut.ensures.answers in
     let tries = accepted (part_refusal (plans D cut) (all_parts (tables_of cut))) (λ _. Loaded (plans D cut) (tables_of tried)) c.in_ok-try_parts.field-0 c.in_ok-try_parts.ensures.tried in
     let same : plans D cut ≡ B = ap (λ d. D.plan d) c.cut.ensures.same.below in
@@ -29,5 +28,5 @@ returns-clause-begun g c =
     begun _ (strata_refusal takes list c.args.n) (part_refusal B (strata takes list)) (numerators B (strata takes list)) (series_run B (strata takes list) (length list)) tt
     (standing D c.start.new.self) cuts.0 parts
     (run.1
-    ∙ ap₂ (λ (P : Plans) (v : Tables). run_from P v 0 nothing) (c.try_parts.ensures.settings ∙ same) (c.try_parts.ensures.same ∙ ap (λ (v : Tables). with_shares v nums dens) cuts.1)
-    ∙ run_planned B takes list nums dens)
+    ∙ ap₂ (λ (P : Plans) (v : Tables). run_from P v 0 nothing) (c.try_parts.ensures.settings ∙ same) (c.try_parts.ensures.same ∙ ap (λ (v : Tables). with_shares v shares) cuts.1)
+    ∙ run_planned B takes list shares)

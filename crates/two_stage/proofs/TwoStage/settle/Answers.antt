@@ -17,7 +17,7 @@ returns-in_err-start-clause-settled g c u =
     let B = g.B.Design.plan s.second.below in
     let x = c.choose.new.self in
     let end : ways_of st ≡ 0 = sym (c.ways.ensures u.intact) ∙ c.if-ways-eq0.true in
-    let count : length v.chosen ≡ length (all_parts v) = omega (arith, counted s.second.table, s.second.table.chosen.ok.0) in
+    let count : length v.chosen ≡ length (all_parts v) = omega (arith, counted s.second.table) in
     let ch = c.choose.ensures.chosen u.intact (subst (Over st) (sym count) (fits_over B v st u.fits end)) in
     let L = loaded_chosen (g.A.Design.intact s.first) B v st u end count (tables_of x) ch in
     absurd (c.in_err-start.ensures.started (subst (λ (P : Plans). Loaded P (tables_of x)) (sym (ap (λ d. g.B.Design.plan d) c.choose.ensures.below)) L))
@@ -32,7 +32,7 @@ returns-in_ok-start-clause-settled g c u =
     let x = c.choose.new.self in
     let y = c.start.new.self in
     let end : ways_of st ≡ 0 = sym (c.ways.ensures u.intact) ∙ c.if-ways-eq0.true in
-    let count : length v.chosen ≡ length (all_parts v) = omega (arith, counted s.second.table, s.second.table.chosen.ok.0) in
+    let count : length v.chosen ≡ length (all_parts v) = omega (arith, counted s.second.table) in
     let ch = c.choose.ensures.chosen u.intact (subst (Over st) (sym count) (fits_over B v st u.fits end)) in
     let L = loaded_chosen I B v st u end count (tables_of x) ch in
     let same : plans g.B.Design x ≡ B = ap (λ d. g.B.Design.plan d) c.choose.ensures.below in

@@ -10,7 +10,7 @@ use Rattle.layers.specs.TwoStage.{clusters, first_plan, clusters_refusal, first_
 use Rattle.layers.proofs.Standings.{refused_as, begun_moved}
 use Rattle.series.specs.Of.{plans, tables_of}
 use Rattle.two_stage.specs.declared.Stage.{Stage}
-use Rattle.two_stage.specs.Of.{stands, stands_in, IsWhole, drawing, CutInto, first_does, opening_refusal, Opened}
+use Rattle.two_stage.specs.Of.{number_set, stands, stands_in, IsWhole, drawing, CutInto, first_does, opening_refusal, Opened}
 use Rattle.two_stage.proofs.Begun.{opening_is, run_is}
 use Rattle.two_stage.proofs.TwoStageDesign.begin.Goals as goal
 
@@ -23,7 +23,7 @@ rest A B m list n =
 pub returns-in_err-draws-clause-begun : goal.returns-in_err-draws-clause-begun
 returns-in_err-draws-clause-begun g c =
     let s = c.args.self.now in
-    let m = s.within in
+    let m = number_set s in
     let list = c.args.list.now in
     let n = c.args.n in
     let A = g.A.Design.plan s.first in
@@ -43,7 +43,7 @@ returns-in_err-draws-clause-begun g c =
 pub returns-in_err-open-clause-begun : goal.returns-in_err-open-clause-begun
 returns-in_err-open-clause-begun g c =
     let s = c.args.self.now in
-    let m = s.within in
+    let m = number_set s in
     let list = c.args.list.now in
     let n = c.args.n in
     let A = g.A.Design.plan s.first in
@@ -70,7 +70,7 @@ returns-in_err-open-clause-begun g c =
 pub returns-clause-begun : goal.returns-clause-begun
 returns-clause-begun g c =
     let s = c.args.self.now in
-    let m = s.within in
+    let m = number_set s in
     let list = c.args.list.now in
     let n = c.args.n in
     let A = g.A.Design.plan s.first in

@@ -1,32 +1,26 @@
-use Rattle.std.proofs.Common.{ℕ, ◌*◌, ◌<◌, length, get_or, ap, ◌∙◌, arith}
-use Rattle.design.specs.Lists.{first}
-use Rattle.design.proofs.Firsts.{first_more, first_here, answers_at}
-use Rattle.layers.specs.Stages.{denominator_at}
-use Rattle.layers.specs.TwoStage.{too_large}
-use Rattle.parts.specs.Parts.{place_of}
-use Rattle.parts.specs.Running.{all_parts}
+use Rattle.std.proofs.Common.{◌≡◌, ℕ, ◌^◌, ◌<◌, ◌≤◌, true, false, length, MatchOption, IfSome, Some, None, Option, subst, rules, arith}
+use Rattle.std.proofs.lemmas.Iterator.{first_from_Range}
+use Rattle.design.specs.Faults.{Answers, refused_at}
 use Rattle.series.specs.Tables.{tables}
-use Rattle.two_stage.proofs.Products.{test_is}
+use Rattle.two_stage.specs.Of.{large_product}
+use Rattle.two_stage.proofs.Products.{large_found}
 use Rattle.two_stage.proofs.first.check_products.Goals as goal
 
-pub returns-then-is_too_large : goal.returns-then-is_too_large
-returns-then-is_too_large g c i u =
-    let t = c.args.table.now in
-    let st = g.A.Design.tree c.args.first.now in
-    let k = c.loop-k.k in
-    let p = too_large (λ k. denominator_at st (place_of 0 (all_parts (tables t)) k) * get_or (tables t).dens k 0) in
-    let n : k < length (tables t).rows = omega (arith, c.loop-k-test.true, c.units-k-end.ensures) in
-    let here = test_is t st k c.part_of-j.result c.denominator_of.result c.prescribed-den.result.1 c.is_too_large.result (c.part_of-j.ensures n) u (c.denominator_of.ensures i)
-    (ap (λ (s : ℕ × ℕ). s.1) c.prescribed-den.ensures) c.is_too_large.ensures in
-    answers_at 16 (first (length (tables t).rows) p) k _ c.at.result (first_here (length (tables t).rows) k p (c.loop-k.invariant i u) (here ∙ c.if-is_too_large.true) n) c.at.ensures
+found_fits : (X : Type 0) (Y Z : ℕ → Type 0) (o : Option ℕ) (m : ℕ) → MatchOption o X (λ i. (0 ≤ i) × (i < m) × Y i × Z i) → m ≤ 1024 → IfSome o (λ k. k < 2 ^ 32)
+found_fits X Y Z None m h l = tt
+found_fits X Y Z (Some i) m h l = omega (arith, h.1)
 
-pub loop-k-preserved : goal.loop-k-preserved
-loop-k-preserved g c i u =
-    let t = c.args.table.now in
-    let st = g.A.Design.tree c.args.first.now in
-    let k = c.loop-k.k in
-    let p = too_large (λ k. denominator_at st (place_of 0 (all_parts (tables t)) k) * get_or (tables t).dens k 0) in
-    let n : k < length (tables t).rows = omega (arith, c.loop-k-test.true, c.units-k-end.ensures) in
-    let here = test_is t st k c.part_of-j.result c.denominator_of.result c.prescribed-den.result.1 c.is_too_large.result (c.part_of-j.ensures n) u (c.denominator_of.ensures i)
-    (ap (λ (s : ℕ × ℕ). s.1) c.prescribed-den.ensures) c.is_too_large.ensures in
-    first_more k p (c.loop-k.invariant i u) (here ∙ c.if-is_too_large.false)
+pub refuse_at-requires : goal.refuse_at-requires
+refuse_at-requires g c =
+    found_fits _ _ _ c.find-large.result c.units.result (first_from_Range _ _ _ _ (λ k. Unit {0}) (λ k. Unit {0}) c.find-large.ensures.ran (λ x q h. tt) (λ x q h. (search rules, tt)))
+    (omega (arith, c.units.ensures, c.args.table.now.rows_few))
+
+pub returns : goal.returns
+returns g c i u =
+    let v = tables c.args.table.now in
+    let p = large_product (g.A.Design.tree c.args.first.now) v in
+    let n = length v.rows in
+    let found = first_from_Range _ _ _ _ (λ k. k < n → p k ≡ true) (λ k. k < n → p k ≡ false) c.find-large.ensures.ran
+    (λ x q h l. let few = c.args.table.now.rows_few in search rules) (λ x q h. (search rules, λ l. let few = c.args.table.now.rows_few in search rules)) in
+    let at = large_found n c.units.result p c.find-large.result c.units.ensures found in
+    subst (λ o. Answers (refused_at o 16) (λ _. Unit {0}) c.refuse_at.result) at c.refuse_at.ensures

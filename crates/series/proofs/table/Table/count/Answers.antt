@@ -3,4 +3,4 @@ use Rattle.series.proofs.Tabled.{counted}
 use Rattle.series.proofs.table.Table.count.Goals as goal
 
 pub returns : goal.returns
-returns c = c.len.ensures ∙ counted c.args.self.now
+returns c = c.len.ensures.len ∙ counted c.args.self.now

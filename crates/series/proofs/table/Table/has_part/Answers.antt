@@ -1,8 +1,8 @@
-use Rattle.std.proofs.Common.{ltb, length, vec_items, sym, ap, ◌∙◌, arith}
+use Rattle.std.proofs.Common.{ltb, length, sym, ap, ◌∙◌, arith}
 use Rattle.series.proofs.Tabled.{counted, shifted}
 use Rattle.series.proofs.table.Table.has_part.Goals as goal
 
 pub returns : goal.returns
 returns c =
     let t = c.args.self.now in
-    ap (λ n. ltb t.stage n) (c.count.ensures ∙ sym (counted t)) ∙ shifted t.stage _ (length (vec_items t.bounds)) (omega (arith, t.bounds.ok.0, t.chosen_all))
+    ap (λ n. ltb t.stage n) (c.count.ensures ∙ sym (counted t)) ∙ shifted t.stage _ (length t.bounds) (omega (arith, t.chosen_all))

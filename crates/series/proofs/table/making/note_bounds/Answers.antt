@@ -1,52 +1,43 @@
-use Rattle.std.proofs.Common.{◌≡◌, ℕ, ◌+◌, ◌-◌, cond, List, [], ◌∷◌, ◌++◌, length, drop, vec_items, sym, refl, ap, ◌∙◌, arith}
-use Rattle.design.specs.Lists.{row_at}
-use Rattle.parts.specs.Parts.{starts}
-use Rattle.parts.proofs.Noting.{bounds_first, starts_step, starts_end}
+use Rattle.std.proofs.Common.{ℕ, ◌+◌, cond, List, [], ◌∷◌, ◌++◌, sym, ap, ◌∙◌, subst}
+use Rattle.std.specs.Slice.Iter.{windows_rest, windows_size}
+use Rattle.parts.specs.Parts.{bounds}
+use Rattle.parts.proofs.Noting.{Noting, noted_first, noted_more, noted_last}
 use Rattle.series.specs.Kinds.{alike}
 use Rattle.series.proofs.table.making.note_bounds.Goals as goal
-use Rattle.series.proofs.table.making.note_bounds.Goals.{then-not-joins, else-not-joins}
 
 pub loop-i-init : goal.loop-i-init
 loop-i-init c =
-    let list = c.args.list.now in (
-      omega (arith, c.push_reserved.ensures.len, c.clear.ensures.len),
-      refl,
-      ap (λ (xs : List ℕ). xs ++ starts (alike c.args.kind) 1 (row_at list 0) (drop 1 list)) (c.push_reserved.ensures.items ∙ ap (λ (xs : List ℕ). xs ++ 0 ∷ []) c.clear.ensures.items)
-          ∙ bounds_first (alike c.args.kind) list c.requires.some,
-    )
+    let from = c.into_iter-i-iterator.ensures.into_iter_gives in
+    let items = c.enumerate-i-items.ensures in
+    noted_first (alike c.args.kind) c.args.list.now _ _ _ _ c.requires.some
+    (ap (λ e. windows_size e.iter) from ∙ ap windows_size items.source ∙ c.windows.ensures.size)
+    (ap (λ e. windows_rest e.iter) from ∙ ap windows_rest items.source ∙ c.windows.ensures.rest)
+    (ap (λ e. e.count) from ∙ items.count)
+    (c.push.ensures ∙ ap (λ (xs : List ℕ). xs ++ 0 ∷ []) c.clear.ensures)
 
 pub loop-i-preserved : goal.loop-i-preserved
 loop-i-preserved c =
-    let list = c.args.list.now in
+    let h = c.in-Some.ensures.steps in
     let l = c.loop-i in
-    let j = c.if-not-joins in
-    let noted : vec_items j.bounds ≡ cond c.joins.result (vec_items l.bounds) (vec_items l.bounds ++ l.i ∷ []) = elim j.branch [
-      | then-not-joins w ↦ ap vec_items w.bounds-is ∙ w.push_reserved-then-not-joins.ensures.items
-          ∙ sym (ap (λ b. cond b (vec_items l.bounds) (vec_items l.bounds ++ l.i ∷ [])) w.if-not-joins.true)
-      | else-not-joins w ↦ ap vec_items w.bounds-is ∙ sym (ap (λ b. cond b (vec_items l.bounds) (vec_items l.bounds ++ l.i ∷ [])) w.if-not-joins.false)
-    ] in (
-      elim j.branch [
-        | then-not-joins w ↦ omega (arith, ap (λ v. v.len) w.bounds-is, w.push_reserved-then-not-joins.ensures.len, l.invariant.0)
-        | else-not-joins w ↦ omega (arith, ap (λ v. v.len) w.bounds-is, l.invariant.0)
-      ],
-      elim j.branch [
-        | then-not-joins w ↦ ap (λ v. v.cap) w.bounds-is ∙ w.push_reserved-then-not-joins.ensures.capacity ∙ l.invariant.1
-        | else-not-joins w ↦ ap (λ v. v.cap) w.bounds-is ∙ l.invariant.1
-      ],
-      ap (λ (xs : List ℕ). xs ++ starts (alike c.args.kind) (l.i + 1) (row_at list (l.i + 1 - 1)) (drop (l.i + 1) list)) noted
-          ∙ starts_step (alike c.args.kind) list l.i c.joins.result (vec_items l.bounds) _ c.loop-i-test.true c.joins.ensures l.invariant.2,
-    )
+    let kind = c.args.kind in
+    let list = c.args.list.now in
+    let next = c.next.new.self in
+    subst (λ (xs : List ℕ). Noting (alike kind) list (bounds (alike kind) list) next.count (windows_size next.iter) (windows_rest next.iter) xs)
+    (ap (λ b. cond b l.bounds (l.bounds ++ (l.i-iterator.count + 1) ∷ [])) c.if-not-joins.false)
+    (noted_more (alike kind) list c.joins.result (bounds (alike kind) list) l.bounds _ _ _ _ _ _ c.in-Some.pair.now l.invariant h.0.0 h.0.1.0 h.0.1.1 h.0.1.2 h.2 c.joins.ensures)
 
-pub returns : goal.returns
-returns c =
-    let list = c.args.list.now in
+pub loop-i-preserved-then-not-joins : goal.loop-i-preserved-then-not-joins
+loop-i-preserved-then-not-joins c =
+    let h = c.in-Some.ensures.steps in
     let l = c.loop-i in
-    let past : l.i ≡ length list = omega (arith, l.auto.i-end c.requires.some, c.loop-i-test.false) in
-    record {
-      items =
-          c.push_reserved-2.ensures.items
-          ∙ ap (λ (xs : List ℕ). vec_items l.bounds ++ xs) (ap (λ (n : ℕ). n ∷ []) (sym past) ∙ starts_end (alike c.args.kind) list l.i (row_at list (l.i - 1)) c.loop-i-test.false)
-          ∙ l.invariant.2;
-      len = omega (arith, c.push_reserved-2.ensures.len, l.invariant.0);
-      capacity = c.push_reserved-2.ensures.capacity ∙ l.invariant.1 ∙ c.push_reserved.ensures.capacity ∙ c.clear.ensures.capacity;
-    }
+    let kind = c.args.kind in
+    let list = c.args.list.now in
+    let next = c.next.new.self in
+    subst (λ (xs : List ℕ). Noting (alike kind) list (bounds (alike kind) list) next.count (windows_size next.iter) (windows_rest next.iter) xs)
+    (ap (λ b. cond b l.bounds (l.bounds ++ (l.i-iterator.count + 1) ∷ [])) c.if-not-joins.true ∙ ap (λ i. l.bounds ++ (i + 1) ∷ []) (sym h.1) ∙ sym c.push-then-not-joins.ensures)
+    (noted_more (alike kind) list c.joins.result (bounds (alike kind) list) l.bounds _ _ _ _ _ _ c.in-Some.pair.now l.invariant h.0.0 h.0.1.0 h.0.1.1 h.0.1.2 h.2 c.joins.ensures)
+
+pub returns-clause-items : goal.returns-clause-items
+returns-clause-items c =
+    c.push-2.ensures
+    ∙ noted_last (alike c.args.kind) c.args.list.now (bounds (alike c.args.kind) c.args.list.now) _ _ _ _ c.loop-i.invariant c.in-None.ensures.steps.0.1.0

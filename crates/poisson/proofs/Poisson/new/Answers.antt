@@ -1,6 +1,0 @@
-use Rattle.std.proofs.Common.{sym, ◌∙◌}
-use Rattle.methods.proofs.Holdings.{no_way}
-use Rattle.poisson.proofs.Poisson.new.Goals as goal
-
-pub invariant_of-result : goal.invariant_of-result
-invariant_of-result c = record { holding = ∣ (λ e. no_way (sym e ∙ c.in_ok-units.ensures)) ∣₁ }

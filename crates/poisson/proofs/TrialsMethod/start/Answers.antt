@@ -1,0 +1,9 @@
+use Rattle.methods.proofs.Poissons.{held_begun}
+use Rattle.plain.specs.Of.{whole, held}
+use Rattle.plain.proofs.Runs.{prepared}
+use Rattle.poisson.proofs.TrialsMethod.start.Goals as goal
+
+pub returns-clause-kept : goal.returns-clause-kept
+returns-clause-kept c =
+    let u = c.args._units.now in
+    held_begun c.requires.list c.requires.n (whole u) (held u) (prepared u c.requires)
