@@ -12,6 +12,7 @@ mod trying;
 
 /// A design, and the list on whose chosen parts it runs in turn. The promises of ways, step and share hold of a series that is intact,
 /// as `start` leaves it and `step` keeps it; whoever moves its fields apart loses them, so a layer keeps its series private.
+/// That is no invariant of the type, as a series whose parts were tried and that has not started is not intact.
 #[derive(Drop)]
 pub struct Series<D: Design> {
     pub below: D,

@@ -12,7 +12,8 @@ use design::design::Design;
 use design::fault::Fault;
 use std::ops::Range;
 
-// Notes which units of a finished run are taken, in these places of the flags.
+// Notes which units of a finished run are taken, in these places of the flags. The clauses on the places are those of `write`: a type of
+// such ranges could be made only under the same.
 fn note_taken<D: Design>(design: &D, flags: &mut BoundedVec<bool, MOST_ROWS>, places: Range<usize>)
     requires forward { places.start ≤ places.end }
     requires within { places.end ≤ length flags.old }

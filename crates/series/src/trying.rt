@@ -15,7 +15,8 @@ use design::fault::Fault;
 use design::fraction::Fraction;
 use std::ops::Range;
 
-// Notes the shares of these rows, on which the design below has just begun.
+// Notes the shares of these rows, on which the design below has just begun. Its clauses on the rows are those of `write`, as `note_taken`
+// has them.
 fn note_shares<D: Design>(
     below: &D,
     shares: &mut BoundedVec<Fraction, MOST_ROWS>,
