@@ -2,7 +2,7 @@
 use Rattle.std.specs.Prelude.{◌≡◌, ℕ, ◌+◌, min, Bool, true, false, List, [], ◌∷◌, ◌++◌, Some, None, Ok, Err, codes, decimal, Option, Result}
 use Rattle.design.specs.declared.fault.Fault.{Fault}
 use Rattle.design.specs.declared.fault.Reason.{Reason}
-use Rattle.design.specs.declared.fault.Reason.TheVariants.{EmptyList, TooManyRows, NoSample, SizeZero, TotalTooLarge, ShareAboveOne, TakesOutOfRange, TakeZero, WithinOutOfRange, NothingSet, OutOfOrder, StrataNotTakes, TakesNotSample, SampleNotMultiple, TooManyClusters, DenominatorTooLarge, NoWays, NoSuchThrow, NoSuchUnit, WaysOutOfRange, Dry}
+use Rattle.design.specs.declared.fault.Reason.TheVariants.{EmptyList, TooManyRows, NoSample, SizeZero, TotalTooLarge, ShareAboveOne, TakesOutOfRange, TakeZero, WithinOutOfRange, NothingSet, OutOfOrder, StrataNotTakes, TakesNotSample, SampleNotMultiple, TooManyClusters, DenominatorTooLarge, NoWays, NoSuchThrow, NoSuchUnit, WaysOutOfRange, Dry, ScaleTooLarge, WeightTooLarge, NoFinishedRun, ReadingsNotAsUnits, UnlawfulReading, WeightAboveLimit, TotalFull}
 
 -- the published number of a reason
 abbrev pub number_of : Reason → ℕ
@@ -27,6 +27,13 @@ number_of NoSuchThrow = 18
 number_of NoSuchUnit = 19
 number_of WaysOutOfRange = 20
 number_of Dry = 21
+number_of ScaleTooLarge = 22
+number_of WeightTooLarge = 23
+number_of NoFinishedRun = 24
+number_of ReadingsNotAsUnits = 25
+number_of UnlawfulReading = 26
+number_of WeightAboveLimit = 27
+number_of TotalFull = 28
 
 -- a refusal as it is published: its number, the row concerned, and how many layers have passed it upward
 pub record Refusal : Type 0 where

@@ -1,4 +1,5 @@
 pub mod Faults
 pub mod Lists
 pub mod Design
+pub mod Plans
 pub mod Laws

@@ -15,7 +15,7 @@ pub trait Design {
     /// The run that stands: its present tree, with a denominator for each unit.
     ghost tree: { Self → Standing };
 
-    /// The parts of the state belong together. A begin brings this about from any state, and every call keeps it.
+    /// The parts of the state belong together. A begin brings this about from any state, a step keeps it, and questions change nothing.
     ghost intact: { Self → Type 0 };
 
     /// Accepts a list and a sample size, or refuses them; refused, no run stands.
@@ -46,8 +46,10 @@ pub trait Design {
         Ok(share.is_whole())
     }
 
+    /// Every plan keeps the limits, and prescribes exact shares; a refusal names row 0 or a row of the list.
     ghost sound: { (s : Self) (list : List Row) (n : ℕ) → SoundPlan list (plan s list n) };
 
+    /// A run that stands has an exact numerator for each unit in its present tree.
     ghost exact: { (s : Self) → intact s → SoundStanding (tree s) };
 }
 

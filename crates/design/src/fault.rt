@@ -28,6 +28,13 @@ pub enum Reason {
     NoSuchUnit = 19,
     WaysOutOfRange = 20,
     Dry = 21,
+    ScaleTooLarge = 22,
+    WeightTooLarge = 23,
+    NoFinishedRun = 24,
+    ReadingsNotAsUnits = 25,
+    UnlawfulReading = 26,
+    WeightAboveLimit = 27,
+    TotalFull = 28,
 }
 
 /// A refusal: its reason, the row concerned (by rule 0 where none is), and how many layers have passed it upward.

@@ -4,7 +4,8 @@ use Rattle.outcomes.specs.Trees.{Tree, finished, branching, Sample, weight, incl
 use Rattle.outcomes.proofs.Trees.{lawful_ways}
 use Rattle.design.specs.Design.{Run, Standing, no_run, in_run, Shared, Fair, SoundRun, SoundStanding, ways_of, below}
 use Rattle.parts.specs.Parts.{Part, place_of}
-use Rattle.parts.specs.Series.{Plans, fraction, nothing, series, resumed, chosen, numerators, denominators}
+use Rattle.design.specs.Plans.{Plans, fraction, nothing}
+use Rattle.parts.specs.Series.{series, resumed, chosen, numerators, denominators}
 use Rattle.parts.specs.Bounds.{Inside}
 use Rattle.parts.specs.Seats.{Seated}
 use Rattle.parts.specs.Copying.{Over, outcome_of, outcome_in}

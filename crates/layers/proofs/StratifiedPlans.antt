@@ -9,7 +9,8 @@ use Rattle.design.proofs.Firsts.{neither, not_refused}
 use Rattle.design.proofs.Checks.{counted}
 use Rattle.parts.specs.Parts.{same_stratum}
 use Rattle.parts.specs.Orders.{lower_stratum, falls_at, fall_refusal}
-use Rattle.parts.specs.Series.{Plans, nothing, numerators, part_refusal}
+use Rattle.design.specs.Plans.{Plans, nothing}
+use Rattle.parts.specs.Series.{numerators, part_refusal}
 use Rattle.parts.proofs.Series.{series_fair}
 use Rattle.parts.proofs.Lawfuls.{chain_parts, apart_parts, all_accepted, lawful_apart, prescribed_parts}
 use Rattle.layers.specs.Stratified.{take_of, strata, total_take, strata_refusal, series_run}

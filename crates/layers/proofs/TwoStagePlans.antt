@@ -12,7 +12,8 @@ use Rattle.design.proofs.Firsts.{first_none, neither, not_refused, no_row}
 use Rattle.design.proofs.Checks.{checked}
 use Rattle.parts.specs.Parts.{Part, same_cluster, bounds, place_of}
 use Rattle.parts.specs.Orders.{lower_cluster, falls_at, fall_refusal}
-use Rattle.parts.specs.Series.{Plans, nothing, tree_of, numerator_of, denominator_of, series, chosen, part_refusal}
+use Rattle.design.specs.Plans.{Plans, nothing, tree_of, numerator_of, denominator_of}
+use Rattle.parts.specs.Series.{series, chosen, part_refusal}
 use Rattle.parts.specs.Bounds.{Apart, Accepted, AllAccepted}
 use Rattle.parts.proofs.Places.{cut-length, chain_place}
 use Rattle.parts.proofs.Series.{lawful_of, fair_of, apart_chosen, accepted_chosen, stages_fair}

@@ -2,7 +2,7 @@
 use Rattle.std.specs.Prelude.{ℕ, List}
 use Rattle.design.specs.Design.{SoundPlan}
 use Rattle.design.specs.declared.row.Row.{Row}
-use Rattle.parts.specs.Series.{Plans}
+use Rattle.design.specs.Plans.{Plans}
 use Rattle.layers.specs.Stratified.{stratified_plan}
 use Rattle.layers.specs.TwoStage.{two_stage_plan}
 

@@ -1,10 +1,11 @@
 -- Two-stage drawing under way: what stands while the first design runs, and what stands once the second does.
 use Rattle.std.specs.Prelude.{◌≡◌, ℕ, ◌*◌, ◌^◌, ◌<◌, ◌≤◌, length}
 use Rattle.outcomes.specs.Trees.{Tree, Sample, Lawful}
-use Rattle.design.specs.Design.{Plan, refuses, accepts, Run, Standing, no_run, in_run, ways_of}
+use Rattle.design.specs.Design.{Run, Standing, no_run, in_run, ways_of}
 use Rattle.parts.specs.Parts.{place_of}
-use Rattle.parts.specs.Series.{Plans, denominators}
-use Rattle.parts.specs.Running.{Tables, all_parts, Loaded, Intact}
+use Rattle.design.specs.Plans.{Plans}
+use Rattle.parts.specs.Series.{denominators}
+use Rattle.parts.specs.Running.{Tables, all_parts, Loaded, AtPart, Intact}
 use Rattle.layers.specs.TwoStage.{stages}
 
 -- the units of the run that stands, and the denominator of one
@@ -15,11 +16,6 @@ units_of (in_run r) = r.units
 abbrev pub denominator_at : Standing → ℕ → ℕ
 denominator_at no_run j = 0
 denominator_at (in_run r) j = r.denominator j
-
--- the run that stands is the one that the plan begins
-abbrev pub Begins : Plan → Standing → Type 0
-Begins (refuses f) st = ⊥
-Begins (accepts num run) st = st ≡ in_run run
 
 -- a run of both stages, where r is the run of the first design, and t the present tree
 abbrev pub stages_over : Plans → Tables → Run → Tree Sample → Run
@@ -56,12 +52,17 @@ pub record FirstUnderway (I : Type 0) (B : Plans) (v : Tables) (st : Standing) :
   pub loaded : Loaded B v
   pub fits : Fits B v st
 
--- the first design runs, and has ways
-pub record InFirst (I : Type 0) (B : Plans) (v : Tables) (st : Standing) : Type 0 where
+-- the first design runs, and may have finished, while the second has just begun on the first cluster; J says that the second is intact
+pub record Drawing (I J : Type 0) (B : Plans) (v : Tables) (st su : Standing) : Type 0 where
   pub underway : FirstUnderway I B v st
+  pub at_first : AtPart J B v 0 su
+
+-- the first design runs, and has ways
+pub record InFirst (I J : Type 0) (B : Plans) (v : Tables) (st su : Standing) : Type 0 where
+  pub drawing : Drawing I J B v st su
   pub has_ways : 0 < ways_of st
 
--- the first design has finished, and the second runs on the taken clusters; J says that the second is intact
+-- the first design has finished, and the second runs on the taken clusters
 pub record InSecond (I J : Type 0) (B : Plans) (v : Tables) (st su : Standing) : Type 0 where
   pub underway : FirstUnderway I B v st
   pub series : Intact J B v su

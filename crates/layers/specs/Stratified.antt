@@ -7,7 +7,8 @@ use Rattle.design.specs.Design.{Run, plan_of}
 use Rattle.design.specs.declared.row.Row.{Row}
 use Rattle.parts.specs.Parts.{Part, same_stratum, parts}
 use Rattle.parts.specs.Orders.{lower_stratum, fall_refusal}
-use Rattle.parts.specs.Series.{Plans, nothing, series, numerators, denominators, part_refusal}
+use Rattle.design.specs.Plans.{Plans, nothing}
+use Rattle.parts.specs.Series.{series, numerators, denominators, part_refusal}
 
 -- the take of stratum j
 abbrev pub take_of : List ℕ → ℕ → ℕ

@@ -7,7 +7,8 @@ use Rattle.design.specs.Design.{Plan, refuses, accepts, Run, plan_of}
 use Rattle.design.specs.declared.row.Row.{Row}
 use Rattle.parts.specs.Parts.{Part, same_cluster, bounds, parts, place_of}
 use Rattle.parts.specs.Orders.{lower_cluster, fall_refusal}
-use Rattle.parts.specs.Series.{Plans, nothing, tree_of, numerator_of, denominator_of, series, chosen, numerators, denominators, part_refusal}
+use Rattle.design.specs.Plans.{Plans, nothing, tree_of, numerator_of, denominator_of}
+use Rattle.parts.specs.Series.{series, chosen, numerators, denominators, part_refusal}
 
 -- the clusters of a list, each with the sample size m
 abbrev pub clusters : ℕ → List Row → List Part

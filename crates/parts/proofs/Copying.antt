@@ -8,7 +8,7 @@ use Rattle.outcomes.proofs.Trees.{average_one}
 use Rattle.design.specs.Design.{Plan, refuses, accepts, Standing, no_run, in_run, Shared, Taken}
 use Rattle.design.specs.declared.fault.Fault.{Fault}
 use Rattle.design.specs.declared.fraction.Fraction.{Fraction}
-use Rattle.parts.specs.Series.{fraction, share_of}
+use Rattle.design.specs.Plans.{fraction, share_of}
 use Rattle.parts.specs.Copying.{outcome_in, outcome_of, Over, Fresh, written}
 
 -- ---- answers of the design below

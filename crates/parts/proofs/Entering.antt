@@ -9,10 +9,11 @@ use Rattle.design.specs.Design.{Plan, refuses, accepts, Run, Standing, in_run, B
 use Rattle.design.specs.declared.fault.Fault.{Fault}
 use Rattle.design.specs.declared.row.Row.{Row}
 use Rattle.parts.specs.Parts.{Part}
-use Rattle.parts.specs.Series.{Plans, plan_for, tree_of, denominator_of, joined, series, resumed, chosen}
+use Rattle.design.specs.Plans.{Plans, tree_of, denominator_of}
+use Rattle.parts.specs.Series.{plan_for, joined, series, resumed, chosen}
 use Rattle.parts.specs.Bounds.{Accepted}
 use Rattle.parts.specs.Copying.{outcome_in, written}
-use Rattle.parts.specs.Running.{Tables, all_parts, first_row_of, part_at, is_chosen, so_far, ahead, run_over, has_present, standing_by, standing_of, run_from, NextChosen, at_stage, with_taken, Moved, Loaded, NoneFrom, Within, Present, Underway}
+use Rattle.parts.specs.Running.{Tables, all_parts, first_row_of, part_at, is_chosen, so_far, ahead, run_over, has_present, standing_by, standing_of, run_from, NextChosen, at_stage, with_taken, Moved, Loaded, Begins, NoneFrom, Within, Present, Underway}
 use Rattle.parts.proofs.Places.{rising_mono, cut_done}
 use Rattle.parts.proofs.Seats.{split, bounded, rows_of, end_of}
 use Rattle.parts.proofs.Shares.{accepted_at}
@@ -52,11 +53,12 @@ record Started {U : Type 0} (n : ℕ) (a : Plan) (r : Result U Fault) (st : Stan
   denominator_is : (k : ℕ) → run.denominator k ≡ denominator_of a k
   lawful : Lawful n run.tree
   ok : is_ok r ≡ true
+  begins : Begins a st
 
 started : {U : Type 0} (list : List Row) (a : Plan) (r : Result U Fault) (st : Standing) → SoundPlan list a → Accepted a → Began a r st → Started (length list) a r st
 started list (refuses f) r st s ok b = absurd ok
 started list (accepts num run) (Ok x) st s ok b =
-    record { run = run; stands = b; tree_is = refl; units_are = s.units_listed; denominator_is = λ k. refl; lawful = s.lawful; ok = refl }
+    record { run = run; stands = b; tree_is = refl; units_are = s.units_listed; denominator_is = λ k. refl; lawful = s.lawful; ok = refl; begins = b }
 started list (accepts num run) (Err e) st s ok b = absurd b
 
 moved : {U : Type 0} (r : Result U Fault) (S : Type 0) (now old : Standing) → is_ok r ≡ true → S → now ≡ old → Moved r S now old
@@ -106,6 +108,7 @@ module _ (B : Plans) (law : (list : List Row) (n : ℕ) → SoundPlan list (B li
           loaded = loaded;
           flags = flags;
           present = subst (λ b. Present b I B (at_stage v j) st) (sym has) (subst (λ (z : Standing). Present true I B (at_stage v j) z) (sym S.stands) (i, within));
+          unmoved = λ e l. (S.begins, N.found more);
         })
         (ap (λ b. standing_by b B (at_stage v j) st) has ∙ ap (λ (z : Standing). standing_by true B (at_stage v j) z) S.stands
         ∙ ap (λ (t : Tree Sample). in_run (run_over B v t)) tree_is)
@@ -117,7 +120,7 @@ module _ (B : Plans) (law : (list : List Row) (n : ℕ) → SoundPlan list (B li
   pub entered_none : {U : Type 0} (u : U) (I : Type 0) (st : Standing) → length v.chosen ≤ j
       → Moved {U = U} (Ok u) (Underway I B (at_stage v j) st) (standing_of B (at_stage v j) st) (run_from B v from (so_far v))
   entered_none u I st done = (
-    record { loaded = loaded; flags = flags; present = subst (λ b. Present b I B (at_stage v j) st) (sym has) tt },
+    record { loaded = loaded; flags = flags; present = subst (λ b. Present b I B (at_stage v j) st) (sym has) tt; unmoved = λ e l. absurd (omega (arith, l, done)) },
     ap (λ b. standing_by b B (at_stage v j) st) has ∙ ap (λ (ps : List Part). in_run (run_over B v (series B ps (so_far v)))) (sym ahead_none),
   )
     where

@@ -6,7 +6,8 @@ use Rattle.design.specs.Faults.{Refusal}
 use Rattle.design.specs.Design.{Plan, refuses, accepts, SoundPlan}
 use Rattle.design.specs.declared.row.Row.{Row}
 use Rattle.parts.specs.Parts.{Part, bounds, parts, holds}
-use Rattle.parts.specs.Series.{Plans, tree_of, numerator_of, denominator_of, plan_for, joined, series, numerators, denominators, refused_or, part_refusal}
+use Rattle.design.specs.Plans.{Plans, tree_of, numerator_of, denominator_of}
+use Rattle.parts.specs.Series.{plan_for, joined, series, numerators, denominators, refused_or, part_refusal}
 use Rattle.parts.specs.Bounds.{Chain, Apart, Accepted, AllAccepted}
 use Rattle.parts.proofs.Holds.{holds_in, holds_past, holds_is, joined_out}
 use Rattle.parts.proofs.Cuts.{rising_bounds, chain_cut, chain_apart}

@@ -6,7 +6,8 @@ use Rattle.outcomes.proofs.Sequences.{every_bind, first_kept, second_kept, seque
 use Rattle.design.specs.Design.{Plan, refuses, accepts, SoundPlan}
 use Rattle.design.specs.declared.row.Row.{Row}
 use Rattle.parts.specs.Parts.{Part, bounds, parts, holds, place_of}
-use Rattle.parts.specs.Series.{Plans, nothing, tree_of, numerator_of, denominator_of, plan_for, joined, series, resumed, chosen, numerators, denominators}
+use Rattle.design.specs.Plans.{Plans, nothing, tree_of, numerator_of, denominator_of}
+use Rattle.parts.specs.Series.{plan_for, joined, series, resumed, chosen, numerators, denominators}
 use Rattle.parts.specs.Bounds.{Chain, Apart, Accepted, AllAccepted, Unless, Inside, given_parts}
 use Rattle.parts.specs.Laws.{SeriesFair, StagesFair}
 use Rattle.parts.proofs.Holds.{holds_before, holds_is, joined_in, joined_out}

@@ -5,7 +5,8 @@ use Rattle.outcomes.proofs.Trees.{lawful_ways}
 use Rattle.design.specs.Design.{Run, SoundPlan}
 use Rattle.design.specs.declared.row.Row.{Row}
 use Rattle.parts.specs.Parts.{Part}
-use Rattle.parts.specs.Series.{Plans, plan_for, numerator_of, denominator_of, resumed, numerators, denominators}
+use Rattle.design.specs.Plans.{Plans, numerator_of, denominator_of}
+use Rattle.parts.specs.Series.{plan_for, resumed, numerators, denominators}
 use Rattle.parts.specs.Bounds.{Accepted, AllAccepted, Inside, given_parts}
 use Rattle.parts.specs.Seats.{Seated}
 use Rattle.parts.specs.Running.{Tables, all_parts, first_row_of, part_at, is_chosen, so_far, ahead, Loaded, Within}

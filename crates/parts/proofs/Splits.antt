@@ -1,7 +1,8 @@
 -- Parts that rise, from one of them on.
 use Rattle.std.proofs.Common.{◌≡◌, ℕ, zero, suc, ◌+◌, ◌-◌, ◌≤◌, cond, List, [], ◌∷◌, length, drop, ap, ◌∙◌, subst, ap₂, arith}
 use Rattle.parts.specs.Parts.{Part, place_of}
-use Rattle.parts.specs.Series.{Plans, plan_for, per_unit}
+use Rattle.design.specs.Plans.{Plans}
+use Rattle.parts.specs.Series.{plan_for, per_unit}
 use Rattle.parts.specs.Bounds.{Apart, Accepted, AllAccepted, Unless, Inside}
 use Rattle.parts.proofs.Holds.{holds_past}
 

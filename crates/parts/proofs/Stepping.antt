@@ -2,17 +2,18 @@
 use Rattle.std.proofs.Common.{◌≡◌, ℕ, suc, ◌+◌, ◌-◌, ◌^◌, ◌<◌, ◌≤◌, Bool, true, false, cond, T, ltb, ◌⊎◌, List, [], ◌∷◌, length, get_or, drop, Ok, Err, Result, sym, refl, ap, ◌∙◌, subst, ap₂, inl, inr, add-one, arith, le-ltb, lt-ltb}
 use native.Mathlib.Decide.{ℕ_discrete}
 use Rattle.std.proofs.lemmas.List.{get_or_past}
-use Rattle.std.proofs.lemmas.Bool.{cases_lt}
+use Rattle.std.proofs.lemmas.Bool.{cases_lt, false≢true}
 use Rattle.outcomes.specs.Trees.{Tree, finished, branching, Sample, Average, Lawful, ways, subtree, bind}
-use Rattle.design.specs.Design.{Run, Standing, no_run, in_run, Shared, SoundPlan, SoundStanding, ways_of, below}
+use Rattle.design.specs.Design.{Plan, refuses, accepts, Run, Standing, no_run, in_run, Shared, SoundPlan, SoundStanding, ways_of, below}
 use Rattle.design.specs.declared.fault.Fault.{Fault}
 use Rattle.design.specs.declared.fraction.Fraction.{Fraction}
 use Rattle.design.specs.declared.row.Row.{Row}
-use Rattle.parts.specs.Series.{Plans, fraction, plan_for, denominator_of, joined, series, resumed, denominators, numerators}
+use Rattle.design.specs.Plans.{Plans, fraction, numerator_of, denominator_of, share_of}
+use Rattle.parts.specs.Series.{plan_for, joined, series, resumed, denominators, numerators}
 use Rattle.parts.specs.Bounds.{Steps, Rising}
 use Rattle.parts.specs.Seats.{Seated}
-use Rattle.parts.specs.Running.{Tables, all_parts, first_row_of, part_at, is_chosen, so_far, ahead, run_over, has_present, standing_by, standing_of, Within, Present, Underway, Settled, Intact}
-use Rattle.parts.proofs.Seats.{chain, apart_after, seat_row, seat_unit}
+use Rattle.parts.specs.Running.{Tables, all_parts, first_row_of, part_at, is_chosen, so_far, ahead, gone_on, Begins, run_over, has_present, standing_by, standing_of, Within, Present, Underway, Settled, Intact}
+use Rattle.parts.proofs.Seats.{chain, apart_after, rows_of, seat_row, seat_unit}
 use Rattle.parts.proofs.Series.{X, apart_chosen, accepted_chosen}
 use Rattle.parts.proofs.Shares.{accepted_at, share_over, share_behind, share_present, share_ahead}
 use Rattle.parts.proofs.Lawfuls.{lawful_bind, joined_below, apart_le, lawful_apart, prescribed_parts}
@@ -67,25 +68,26 @@ bind_down h d (branching m sub) l = refl
 
 -- a step of the design in the present part is one of the series
 pub stepped_down : (I I' : Type 0) (B : Plans) (v : Tables) (st st' : Standing) (d : ℕ) → Underway I B v st → has_present v ≡ true → I' → d < ways_of st → st' ≡ below st d
-    → Underway I' B v st' × (standing_of B v st' ≡ below (standing_of B v st) d)
+    → Underway I' B (gone_on v) st' × (standing_of B (gone_on v) st' ≡ below (standing_of B v st) d)
 stepped_down I I' B v st st' d U has i l e = by st U (subst (λ b. Present b I B v st) has U.present) l e
   where
-    by : (st : Standing) → Underway I B v st → Present true I B v st → d < ways_of st → st' ≡ below st d → Underway I' B v st' × (standing_of B v st' ≡ below (standing_of B v st) d)
+    by : (st : Standing) → Underway I B v st → Present true I B v st → d < ways_of st → st' ≡ below st d → Underway I' B (gone_on v) st' × (standing_of B (gone_on v) st' ≡ below (standing_of B v st) d)
     by no_run U p l e = absurd p
     by (in_run r) U p l e =
         let W = p.1 in
-        let W' : Within B v (record { tree = subtree r.tree d; units = r.units; denominator = r.denominator }) = record {
+        let W' : Within B (gone_on v) (record { tree = subtree r.tree d; units = r.units; denominator = r.denominator }) = record {
           units_are = W.units_are;
           lawful = lawful_subtree (first_row_of v (v.stage + 1) - first_row_of v v.stage) d r.tree W.lawful l;
           denominator_is = W.denominator_is;
           none_ahead = W.none_ahead;
         } in (
           record {
-            loaded = U.loaded;
+            loaded = record { rising = U.loaded.rising; accepted = U.loaded.accepted; shares_are = U.loaded.shares_are };
             flags = U.flags;
-            present = subst (λ b. Present b I' B v st') (sym has) (subst (λ (z : Standing). Present true I' B v z) (sym e) (i, W'));
+            present = subst (λ b. Present b I' B (gone_on v) st') (sym has) (subst (λ (z : Standing). Present true I' B (gone_on v) z) (sym e) (i, W'));
+            unmoved = λ q. absurd (false≢true (sym q));
           },
-          ap₂ (λ (b : Bool) (z : Standing). standing_by b B v z) has e
+          ap₂ (λ (b : Bool) (z : Standing). standing_by b B (gone_on v) z) has e
               ∙ ap (λ (t : Tree Sample). in_run (run_over B v t)) (bind_down (λ w. series B (ahead v (v.stage + 1)) (joined (part_at v v.stage) (so_far v) w)) d r.tree l)
               ∙ sym (ap (λ b. below (standing_by b B v (in_run r)) d) has),
         )
@@ -149,6 +151,34 @@ module _ (B : Plans) (law : (list : List Row) (n : ℕ) → SoundPlan list (B li
             den a is =
                 is ∙ p.1.denominator_is (k - first_row_of v j) ∙ ap (λ i. denominator_of (plan_for B (part_at v i)) (k - first_row_of v j)) (sym e)
                 ∙ sym (seat_unit v U.loaded.rising k j s (λ p. denominator_of (plan_for B p)))
+
+  -- as long as the design has not gone on, that is the prescribed one
+  pub share_unmoved : (k j : ℕ) (s : Seated v.bounds k j) (st : Standing) → length v.chosen + 1 ≡ length v.bounds → Underway I B v st → j ≡ v.stage → v.moved ≡ false
+      → Shared (standing_of B v st) k
+      (Ok (fraction (cond (ltb j v.stage) (cond (so_far v k) (denominators B (all_parts v) k) 0) (cond (is_chosen v j) (numerators B (all_parts v) k) 0)) (denominators B (all_parts v) k)))
+  share_unmoved k j s st all U e still =
+      subst (λ (a : Fraction). Shared (standing_of B v st) k (Ok a)) (sym is)
+      (share_here k j s st (Ok (share_of (plan_for B (part_at v j)) (k - first_row_of v j))) U e
+      (by (plan_for B (part_at v j)) st (law (part_at v j).rows (part_at v j).sample) (subst (λ i. Begins (plan_for B (part_at v i)) st) (sym e) now.0)))
+    where
+      now : Begins (plan_for B (part_at v v.stage)) st × (is_chosen v v.stage ≡ true)
+      now = U.unmoved still (omega (arith, s.place, e, all))
+
+      inside : k - first_row_of v j < length (part_at v j).rows
+      inside = omega (arith, rows_of v U.loaded.rising j s.place, s.low, s.high)
+
+      by : (a : Plan) (st : Standing) → SoundPlan (part_at v j).rows a → Begins a st → Shared st (k - first_row_of v j) (Ok (share_of a (k - first_row_of v j)))
+      by (refuses f) st p b = absurd b
+      by (accepts num run) st p b =
+          subst (λ (z : Standing). Shared z (k - first_row_of v j) (Ok (share_of (accepts num run) (k - first_row_of v j)))) (sym b)
+          (omega (arith, inside, p.units_listed), (refl, p.fair (k - first_row_of v j) inside))
+
+      is : fraction (cond (ltb j v.stage) (cond (so_far v k) (denominators B (all_parts v) k) 0) (cond (is_chosen v j) (numerators B (all_parts v) k) 0)) (denominators B (all_parts v) k)
+          ≡ share_of (plan_for B (part_at v j)) (k - first_row_of v j)
+      is =
+          ap₂ (λ (b c : Bool). fraction (cond b (cond (so_far v k) (denominators B (all_parts v) k) 0) (cond c (numerators B (all_parts v) k) 0)) (denominators B (all_parts v) k))
+          (le-ltb j v.stage (omega (arith, e))) (ap (is_chosen v) e ∙ now.1)
+          ∙ ap₂ fraction (seat_unit v U.loaded.rising k j s (λ q. numerator_of (plan_for B q))) (seat_unit v U.loaded.rising k j s (λ q. denominator_of (plan_for B q)))
 
   -- ---- every run that stands
   flagged : length v.taken ≡ length v.rows → (k : ℕ) → T (so_far v k) → k < length v.rows

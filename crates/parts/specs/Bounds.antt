@@ -3,7 +3,8 @@ use Rattle.std.specs.Prelude.{◌≡◌, ℕ, suc, ◌+◌, ◌-◌, ◌<◌, �
 use Rattle.outcomes.specs.Trees.{Sample}
 use Rattle.design.specs.Design.{Plan, refuses, accepts}
 use Rattle.parts.specs.Parts.{Part, holds}
-use Rattle.parts.specs.Series.{Plans, plan_for, numerator_of}
+use Rattle.design.specs.Plans.{Plans, numerator_of}
+use Rattle.parts.specs.Series.{plan_for}
 
 -- the parts follow one another from the row a to the row e
 abbrev pub Chain : ℕ → List Part → ℕ → Type 0

@@ -2,7 +2,7 @@
 use Rattle.std.specs.Prelude.{◌≡◌, ℕ, ◌-◌, ◌<◌, cond, ◌&&◌, nat_le, nat_lt}
 use Rattle.outcomes.specs.Trees.{Tree, finished, branching, Sample, HasWays, ways}
 use Rattle.design.specs.Design.{Plan, refuses, accepts, Standing, no_run, in_run, Fair}
-use Rattle.parts.specs.Series.{nothing}
+use Rattle.design.specs.Plans.{nothing}
 
 -- the outcome of a finished tree, and of a finished run
 abbrev pub outcome_in : Tree Sample → Sample

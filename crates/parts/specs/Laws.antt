@@ -5,7 +5,8 @@ use Rattle.design.specs.Design.{SoundPlan}
 use Rattle.design.specs.Lists.{row_at}
 use Rattle.design.specs.declared.row.Row.{Row}
 use Rattle.parts.specs.Parts.{parts, place_of}
-use Rattle.parts.specs.Series.{Plans, nothing, series, chosen, numerators, denominators}
+use Rattle.design.specs.Plans.{Plans, nothing}
+use Rattle.parts.specs.Series.{series, chosen, numerators, denominators}
 use Rattle.parts.specs.Bounds.{AllAccepted}
 
 -- the parts are the runs of rows that are alike: two rows in a row are in one part exactly if they are alike

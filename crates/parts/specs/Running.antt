@@ -1,16 +1,18 @@
 -- A series under way: a design runs on the chosen parts of a list, one after another. What its tables hold, and what then stands.
 use Rattle.std.specs.Prelude.{◌≡◌, ℕ, ◌+◌, ◌-◌, ◌<◌, ◌≤◌, Bool, true, false, List, length, take, drop, Ok, Err, Result, nat_lt, slice_index, slice_index_or}
 use Rattle.outcomes.specs.Trees.{Tree, finished, Sample, Lawful}
-use Rattle.design.specs.Design.{Run, Standing, no_run, in_run, ways_of}
+use Rattle.design.specs.Design.{Plan, Run, Standing, no_run, in_run, Began, ways_of}
 use Rattle.design.specs.declared.fault.Fault.{Fault}
 use Rattle.design.specs.declared.fraction.Fraction.{Fraction}
 use Rattle.design.specs.declared.row.Row.{Row}
 use Rattle.parts.specs.Parts.{Part, cut}
-use Rattle.parts.specs.Series.{Plans, fraction, plan_for, denominator_of, series, resumed, chosen, denominators, prescribed}
+use Rattle.design.specs.Plans.{Plans, fraction, denominator_of}
+use Rattle.parts.specs.Series.{plan_for, series, resumed, chosen, denominators, prescribed}
 use Rattle.parts.specs.Bounds.{AllAccepted, Rising}
 
 -- the rows of the list, the first rows of its parts with the row past the list, each part's sample size, each unit's prescribed share,
--- which parts are chosen, which units of the parts behind are taken, and the number of the present part
+-- which parts are chosen, which units of the parts behind are taken, the number of the present part, and whether the design has gone on since
+-- it began there
 pub record Tables : Type 0 where
   pub rows : List Row
   pub bounds : List ℕ
@@ -19,6 +21,7 @@ pub record Tables : Type 0 where
   pub chosen : List Bool
   pub taken : List Bool
   pub stage : ℕ
+  pub moved : Bool
 
 abbrev pub sample_of : Tables → ℕ → ℕ
 sample_of v j = slice_index v.samples j
@@ -89,6 +92,7 @@ at_stage v j = record {
   chosen = v.chosen;
   taken = v.taken;
   stage = j;
+  moved = false;
 }
 
 abbrev pub with_taken : Tables → List Bool → Tables
@@ -100,6 +104,19 @@ with_taken v taken = record {
   chosen = v.chosen;
   taken = taken;
   stage = v.stage;
+  moved = v.moved;
+}
+
+abbrev pub gone_on : Tables → Tables
+gone_on v = record {
+  rows = v.rows;
+  bounds = v.bounds;
+  samples = v.samples;
+  shares = v.shares;
+  chosen = v.chosen;
+  taken = v.taken;
+  stage = v.stage;
+  moved = true;
 }
 
 -- the call is accepted, and S holds then; the run that stands is as it was
@@ -113,6 +130,19 @@ pub record Loaded (B : Plans) (v : Tables) : Type 0 where
   pub rising : Rising v.bounds (length v.rows)
   pub accepted : AllAccepted B (all_parts v)
   pub shares_are : (k : ℕ) → k < length v.rows → share_at v k ≡ prescribed B (all_parts v) k
+
+-- the run that stands is the one that the plan begins
+abbrev pub Begins : Plan → Standing → Type 0
+Begins a st = Began {U = Unit {0}} a (Ok tt) st
+
+-- the design has just begun on part j, if there is one; I says that it is intact
+abbrev pub AtPart : Type 0 → Plans → Tables → ℕ → Standing → Type 0
+AtPart I B v j st = j < length v.chosen → I × Begins (plan_for B (part_at v j)) st
+
+-- the design accepts every part, the prescribed shares are there, and it has just begun on the first part
+pub record Ready (I : Type 0) (B : Plans) (v : Tables) (st : Standing) : Type 0 where
+  pub loaded : Loaded B v
+  pub at_first : AtPart I B v 0 st
 
 -- no unit from the row a on is taken yet
 abbrev pub NoneFrom : Tables → ℕ → Type 0
@@ -131,10 +161,15 @@ Present true I B v no_run = ⊥
 Present true I B v (in_run r) = I × Within B v r
 Present false I B v st = Unit {0}
 
+-- the design has just begun on the present part, if there is one, which is chosen
+abbrev pub Unmoved : Plans → Tables → Standing → Type 0
+Unmoved B v st = v.stage < length v.chosen → Begins (plan_for B (part_at v v.stage)) st × (is_chosen v v.stage ≡ true)
+
 pub record Underway (I : Type 0) (B : Plans) (v : Tables) (st : Standing) : Type 0 where
   pub loaded : Loaded B v
   pub flags : length v.taken ≡ length v.rows
   pub present : Present (has_present v) I B v st
+  pub unmoved : v.moved ≡ false → Unmoved B v st
 
 -- the present part has ways: a finished one is left at once
 abbrev pub Settled : Bool → Standing → Type 0

@@ -1,39 +1,11 @@
 -- A design run on parts of a list, one after another.
-use Rattle.std.specs.Prelude.{ℕ, suc, ◌+◌, ◌-◌, min, false, cond, List, [], ◌∷◌, Some, None, Option}
+use Rattle.std.specs.Prelude.{ℕ, suc, ◌+◌, ◌-◌, min, cond, List, [], ◌∷◌, Some, None, Option}
 use Rattle.outcomes.specs.Trees.{Tree, finished, Sample, bind}
 use Rattle.design.specs.Faults.{Refusal}
 use Rattle.design.specs.Design.{Plan, refuses, accepts}
 use Rattle.design.specs.declared.fraction.Fraction.{Fraction}
-use Rattle.design.specs.declared.row.Row.{Row}
+use Rattle.design.specs.Plans.{Plans, tree_of, numerator_of, denominator_of, fraction}
 use Rattle.parts.specs.Parts.{Part, holds}
-
--- what a design's settings fix for each list and sample size
-abbrev pub Plans : Type 0
-Plans = List Row → ℕ → Plan
-
-abbrev pub nothing : Sample
-nothing k = false
-
--- the tree, the numerators and the denominators of a plan that accepts
-abbrev pub tree_of : Plan → Tree Sample
-tree_of (refuses f) = finished nothing
-tree_of (accepts num run) = run.tree
-
-abbrev pub numerator_of : Plan → ℕ → ℕ
-numerator_of (refuses f) k = 0
-numerator_of (accepts num run) k = num k
-
-abbrev pub denominator_of : Plan → ℕ → ℕ
-denominator_of (refuses f) k = 0
-denominator_of (accepts num run) k = run.denominator k
-
--- num parts of a whole of den parts
-abbrev pub fraction : ℕ → ℕ → Fraction
-fraction num den = record { numerator = num; denominator = den }
-
--- the prescribed share of a unit, of a plan that accepts
-abbrev pub share_of : Plan → ℕ → Fraction
-share_of a k = fraction (numerator_of a k) (denominator_of a k)
 
 -- what the design does with a part
 abbrev pub plan_for : Plans → Part → Plan

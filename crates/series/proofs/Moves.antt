@@ -1,20 +1,21 @@
 -- From part to part of a series: what the calls below give.
-use Rattle.std.proofs.Common.{◌≡◌, ℕ, ◌+◌, ◌-◌, ◌<◌, ◌≤◌, Bool, true, false, ◌⊎◌, List, length, get_or, drop, replicate, MatchOption, Some, None, Option, Ok, Err, Result, sym, refl, ap, ◌∙◌, subst, inl, inr, arith}
+use Rattle.std.proofs.Common.{◌≡◌, ℕ, ◌+◌, ◌-◌, ◌<◌, ◌≤◌, Bool, true, false, ◌⊎◌, List, [], ◌∷◌, length, get_or, drop, replicate, MatchOption, Some, None, Option, Ok, Err, Result, sym, refl, ap, ◌∙◌, subst, inl, inr, arith}
 use mathlib.Core.Path.{fun_ext}
 use Rattle.std.specs.List.{position, position_or_len}
 use Rattle.std.proofs.lemmas.Grind.{common_steps}
 use Rattle.std.proofs.lemmas.List.{get_or_past, get_or-replicate, length-replicate, get_or-drop, length-drop}
 use Rattle.std.proofs.lemmas.List.Quantifiers.{position-Some}
 use Rattle.std.proofs.lemmas.List.Sums.{fails_before_first}
-use Rattle.std.proofs.lemmas.Bool.{cases_lt, lt-ltb}
+use Rattle.std.proofs.lemmas.Bool.{cases_lt, lt-ltb, false≢true}
 use Rattle.outcomes.specs.Trees.{Sample}
 use Rattle.outcomes.proofs.Trees.{lawful_ways}
 use Rattle.design.specs.Design.{Standing, no_run, in_run, Began, Stepped, SoundPlan, ways_of, below}
 use Rattle.design.specs.declared.fault.Fault.{Fault}
 use Rattle.design.specs.declared.row.Row.{Row}
 use Rattle.parts.specs.Copying.{Over, outcome_of, written}
-use Rattle.parts.specs.Running.{Tables, first_row_of, part_at, so_far, standing_of, run_from, NextChosen, at_stage, with_taken, Moved, Loaded, NoneFrom, Present, Underway}
-use Rattle.parts.specs.Series.{Plans, nothing, plan_for}
+use Rattle.parts.specs.Running.{Tables, first_row_of, part_at, so_far, standing_of, run_from, NextChosen, at_stage, gone_on, with_taken, Moved, Loaded, Ready, NoneFrom, Present, Underway, is_chosen}
+use Rattle.design.specs.Plans.{Plans, nothing}
+use Rattle.parts.specs.Series.{plan_for}
 use Rattle.parts.proofs.Entering.{entered_part, Noted, noted}
 use Rattle.series.specs.Of.{SameList}
 
@@ -38,8 +39,15 @@ same_trans u v w a b = record {
 pub same_taken : (v : Tables) (taken : List Bool) (w : Tables) → SameList (with_taken v taken) w → SameList v w
 same_taken v taken w a = record { rows = a.rows; bounds = a.bounds; samples = a.samples; shares = a.shares; chosen = a.chosen }
 
-pub loaded_taken : (B : Plans) (v : Tables) (taken : List Bool) → Loaded B v → Loaded B (with_taken v taken)
-loaded_taken B v taken L = record { rising = L.rising; accepted = L.accepted; shares_are = L.shares_are }
+-- after a step of the design
+pub same_gone : (v w : Tables) → SameList (gone_on v) w → SameList v w
+same_gone v w a = record { rows = a.rows; bounds = a.bounds; samples = a.samples; shares = a.shares; chosen = a.chosen }
+
+pub ready_taken : (I : Type 0) (B : Plans) (v : Tables) (st : Standing) (taken : List Bool) → Ready I B v st → Ready I B (with_taken v taken) st
+ready_taken I B v st taken R = record {
+  loaded = record { rising = R.loaded.rising; accepted = R.loaded.accepted; shares_are = R.loaded.shares_are };
+  at_first = R.at_first;
+}
 
 -- no unit is taken yet
 pub none_taken : (n k : ℕ) → get_or (replicate n false) k false ≡ false
@@ -65,6 +73,20 @@ pub enter_part : (B B' : Plans) (law : (list : List Row) (n : ℕ) → SoundPlan
 enter_part B B' law v L flags all from j N none x st more begun e I i =
     subst (λ (C : Plans). Moved x (Underway I C (at_stage v j) st) (standing_of C (at_stage v j) st) (run_from B v from (so_far v))) (sym e)
     (entered_part B law v L flags all from j N none x st more begun I i)
+
+-- the first part is chosen, and the design has just begun on it
+pub enter_ready : (B : Plans) (law : (list : List Row) (n : ℕ) → SoundPlan list (B list n)) (v : Tables) (I : Type 0) (st : Standing) → Ready I B v st → length v.taken ≡ length v.rows
+    → length v.chosen + 1 ≡ length v.bounds → NoneFrom v 0 → is_chosen v 0 ≡ true
+    → Moved {U = Unit {0}} (Ok tt) (Underway I B (at_stage v 0) st) (standing_of B (at_stage v 0) st) (run_from B v 0 (so_far v))
+enter_ready B law v I st R flags all none is =
+    let more = some v.chosen is in
+    let N : NextChosen v.chosen 0 0 = record { low = omega arith; high = omega arith; passed = λ k p q. absurd (omega (arith, q)); found = λ m. is } in
+    let at = R.at_first more in
+    enter_part B B law v R.loaded flags all 0 0 N (λ k l. none k (omega arith)) (Ok tt) st more at.1 refl I at.0
+  where
+    some : (flags : List Bool) → get_or flags 0 false ≡ true → 0 < length flags
+    some [] e = absurd (false≢true e)
+    some (b ∷ bs) e = omega arith
 
 -- the present part, from the row `first` up to `past`, is finished
 pub passing : (B : Plans) (v : Tables) (I : Type 0) (taken : List Bool) (first past : ℕ) (st : Standing) → Underway I B v st → v.stage + 1 < length v.bounds

@@ -25,6 +25,7 @@ with_chosen v flags = record {
   chosen = flags;
   taken = v.taken;
   stage = v.stage;
+  moved = v.moved;
 }
 
 -- the parts that c holds are chosen, and nothing else is changed

@@ -2,8 +2,8 @@
 use Rattle.std.specs.Prelude.{◌≡◌, []}
 use Rattle.design.specs.Design.{Standing}
 use Rattle.design.specs.declared.design.Design as Design
-use Rattle.parts.specs.Running.{Tables, standing_of, Loaded, Underway, Intact}
-use Rattle.parts.specs.Series.{Plans}
+use Rattle.parts.specs.Running.{Tables, standing_of, Loaded, Ready, Underway, Intact}
+use Rattle.design.specs.Plans.{Plans}
 use Rattle.series.specs.Tables.{tables}
 use Rattle.series.specs.declared.Series.{Series}
 
@@ -26,6 +26,10 @@ standing G s = standing_of (plans G s) (tables_of s) (G.tree s.below)
 -- the design accepts every part, and the prescribed shares are there
 abbrev pub IsLoaded : {D : Type 0} → Design.Ghosts D → Series D → Type 0
 IsLoaded G s = Loaded (plans G s) (tables_of s)
+
+-- the same, and the design has just begun on the first part, as where every part was tried
+abbrev pub IsReady : {D : Type 0} → Design.Ghosts D → Series D → Type 0
+IsReady G s = Ready (G.intact s.below) (plans G s) (tables_of s) (G.tree s.below)
 
 -- a run has begun, and its present part may be finished
 abbrev pub IsUnderway : {D : Type 0} → Design.Ghosts D → Series D → Type 0

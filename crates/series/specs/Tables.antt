@@ -14,6 +14,7 @@ tables t = record {
   chosen = t.chosen;
   taken = t.taken;
   stage = t.stage;
+  moved = t.moved;
 }
 
 -- a list newly cut: all parts are chosen, and nothing else is noted
@@ -26,6 +27,7 @@ newly_cut alike list = record {
   chosen = replicate (length (bounds alike list) - 1) true;
   taken = replicate (length list) false;
   stage = 0;
+  moved = false;
 }
 
 -- the tables with these sample sizes
@@ -38,4 +40,5 @@ asked v samples = record {
   chosen = v.chosen;
   taken = v.taken;
   stage = v.stage;
+  moved = v.moved;
 }

@@ -1,7 +1,7 @@
 ghost use Rattle.std.specs.Prelude.{◌≡◌, ◌<◌, length, IfOk};
 ghost use Rattle.design.specs.Design.{Shared, Stepped, ways_of};
 ghost use Rattle.series.specs.Of.{IsIntact, IsNew, SameList, plans, standing, tables_of};
-ghost use Rattle.series.specs.Calls.{aside_share};
+ghost use Rattle.series.specs.Calls.{noted_share};
 
 use crate::Series;
 use crate::table::Table;
@@ -43,14 +43,15 @@ impl<D: Design> Series<D> {
             return Err(Fault::of(Reason::NoWays));
         }
         self.below.step(d)?;
+        self.table.moved = true;
         self.settle()
     }
 
-    // The share of the unit k of part j, which is behind or ahead: all or nothing behind; ahead, what is prescribed if the part is chosen.
-    fn share_aside(&self, k: usize, j: usize) -> Fraction
-        requires unit { k < length (tables_of self.now).rows }
-        requires part { j < length (tables_of self.now).chosen }
-        ensures { result ≡ aside_share (tables_of self.now) k j }
+    // The share of the unit k of part j, where the design is not in the midst of that part: all or nothing behind, and else what is prescribed
+    // if the part is chosen.
+    fn share_noted(&self, k: usize, j: usize) -> Fraction
+        requires { k < length (tables_of self.now).rows }
+        ensures { result ≡ noted_share (tables_of self.now) k j }
     {
         let share = self.table.prescribed(k);
         let numerator = if j < self.table.stage {
@@ -59,7 +60,7 @@ impl<D: Design> Series<D> {
             } else {
                 0
             }
-        } else if self.table.chosen.as_slice()[j] {
+        } else if self.table.is_chosen(j) {
             share.numerator
         } else {
             0
@@ -75,10 +76,10 @@ impl<D: Design> Series<D> {
             return Err(Fault::of(Reason::NoSuchUnit));
         }
         let j = self.table.part_of(k);
-        if j == self.table.stage {
+        if j == self.table.stage && self.table.moved {
             self.below.share(k - self.table.first_row(j))
         } else {
-            Ok(self.share_aside(k as usize, j))
+            Ok(self.share_noted(k as usize, j))
         }
     }
 }

@@ -1,8 +1,8 @@
 ghost use Rattle.std.specs.Prelude.{◌≡◌, ℕ, ◌-◌, ◌<◌, ◌≤◌, false, length, slice_index_or};
 ghost use Rattle.parts.specs.Copying.{Over, outcome_of, written};
-ghost use Rattle.parts.specs.Running.{Moved, NextChosen, run_from, so_far};
-ghost use Rattle.parts.specs.Series.{nothing};
-ghost use Rattle.series.specs.Of.{IsIntact, IsLoaded, IsUnderway, SameList, plans, standing, tables_of};
+ghost use Rattle.parts.specs.Running.{Moved, NextChosen, NoneFrom, run_from, so_far};
+ghost use Rattle.design.specs.Plans.{nothing};
+ghost use Rattle.series.specs.Of.{IsIntact, IsReady, IsUnderway, SameList, plans, standing, tables_of};
 ghost use Rattle.series.specs.Moving.{CanEnter, Finished, Chosen, with_chosen};
 
 use crate::Series;
@@ -46,6 +46,7 @@ impl<D: Design> Series<D> {
     {
         let j = next_set(self.table.chosen.as_slice(), from);
         self.table.stage = j;
+        self.table.moved = false;
         if j < self.table.count() {
             self.below.begin(self.table.part(j), self.table.sample(j))
         } else {
@@ -89,15 +90,30 @@ impl<D: Design> Series<D> {
         note_taken(design, &mut self.table.chosen, 0..count);
     }
 
-    /// Starts a run on the chosen parts of a list that is loaded: one on which every part was tried and accepted.
+    // Comes to the first chosen part. The design has just begun on the first of all parts, and is not begun again on that one.
+    fn enter_first(&mut self) -> Result<(), Fault>
+        ensures same { SameList (tables_of self.old) (tables_of self.new) }
+        ensures settings { plans D.Design self.new ≡ plans D.Design self.old }
+        ensures entered { IsReady D.Design self.old → NoneFrom (tables_of self.old) 0 → Moved result (IsUnderway D.Design self.new) (standing D.Design self.new) (run_from (plans D.Design self.old) (tables_of self.old) 0 (so_far (tables_of self.old))) }
+    {
+        self.table.stage = 0;
+        self.table.moved = false;
+        if self.table.is_chosen(0) {
+            Ok(())
+        } else {
+            self.enter(0)
+        }
+    }
+
+    /// Starts a run on the chosen parts of a list that is ready: every part was tried and accepted, and the design has not moved since.
     pub fn start(&mut self) -> Result<(), Fault>
         ensures same { SameList (tables_of self.old) (tables_of self.new) }
         ensures settings { plans D.Design self.new ≡ plans D.Design self.old }
-        ensures started { IsLoaded D.Design self.old → Moved result (IsIntact D.Design self.new) (standing D.Design self.new) (run_from (plans D.Design self.old) (tables_of self.old) 0 nothing) }
+        ensures started { IsReady D.Design self.old → Moved result (IsIntact D.Design self.new) (standing D.Design self.new) (run_from (plans D.Design self.old) (tables_of self.old) 0 nothing) }
     {
         let units = self.table.units();
         self.table.taken.fill(units, false);
-        self.enter(0)?;
+        self.enter_first()?;
         self.settle()
     }
 }

@@ -14,8 +14,9 @@ const MOST_BOUNDS: usize = MOST_ROWS + 1;
 
 /// A list cut into parts, and how far a design has come that runs on the chosen ones in turn. By units: the rows, the prescribed
 /// shares, and which units of the parts behind are taken. By parts: the first rows, and at last the row past the list; the sample sizes;
-/// and which parts are chosen. The stage is the present part, or the number of parts where all are behind. They are lists of their own, as
-/// a part is handed out as a slice of rows, flags of units and of parts are noted by one function, and first rows are one more than parts.
+/// and which parts are chosen. The stage is the present part, or the number of parts where all are behind, and `moved` says whether a step
+/// was made since the design began there. They are lists of their own, as a part is handed out as a slice of rows, flags of units and of
+/// parts are noted by one function, and first rows are one more than parts.
 #[derive(Drop)]
 pub struct Table {
     pub(crate) rows: BoundedVec<Row, MOST_ROWS>,
@@ -25,6 +26,7 @@ pub struct Table {
     pub(crate) samples: BoundedVec<u32, MOST_ROWS>,
     pub(crate) chosen: BoundedVec<bool, MOST_ROWS>,
     pub(crate) stage: usize,
+    pub(crate) moved: bool,
     // Said again, as what a type with a model keeps is not seen through its view.
     ghost rows_few: { length rows ≤ 1024 },
     ghost shares_all: { length shares ≡ length rows },

@@ -2,10 +2,11 @@ ghost use Rattle.std.specs.Prelude.{◌≡◌, ℕ, ◌+◌, ◌-◌, ◌^◌, �
 ghost use Rattle.design.specs.Design.{Plan};
 ghost use Rattle.design.specs.Faults.{Answers};
 ghost use Rattle.parts.specs.Copying.{Fresh, written};
-ghost use Rattle.parts.specs.Running.{all_parts, no_share, Loaded, part_at};
-ghost use Rattle.parts.specs.Series.{share_of, part_refusal, plan_for};
+ghost use Rattle.parts.specs.Running.{all_parts, no_share, part_at};
+ghost use Rattle.design.specs.Plans.{share_of};
+ghost use Rattle.parts.specs.Series.{part_refusal, plan_for};
 ghost use Rattle.parts.specs.Trying.{Tried, with_shares};
-ghost use Rattle.series.specs.Of.{plans, tables_of};
+ghost use Rattle.series.specs.Of.{IsReady, plans, tables_of};
 
 use crate::Series;
 use bounded::BoundedVec;
@@ -36,7 +37,8 @@ impl<D: Design> Series<D> {
     // Begins the design on part j, and notes its prescribed shares, or passes its fault upward.
     fn try_part(&mut self, j: usize) -> Result<(), Fault>
         requires { j < length (tables_of self.old).chosen }
-        ensures tried { Tried (plan_for (plans D.Design self.old) (part_at (tables_of self.old) j)) (tables_of self.old) j (tables_of self.new).shares result }
+        ensures tried { Tried (plan_for (plans D.Design self.old) (part_at (tables_of self.old) j)) (tables_of self.old) j (tables_of self.new).shares (D.Design.tree self.new.below) result }
+        ensures whole { D.Design.intact self.new.below }
         ensures same { tables_of self.new ≡ with_shares (tables_of self.old) (tables_of self.new).shares }
         ensures settings { plans D.Design self.new ≡ plans D.Design self.old }
     {
@@ -49,17 +51,18 @@ impl<D: Design> Series<D> {
         Ok(())
     }
 
-    /// Tries the design on every part in order, and notes the prescribed shares, or passes the first fault upward. Which run the
-    /// design then has is left open: `start` begins it anew.
+    /// Tries the design on every part, and notes the prescribed shares, or passes the first fault upward. From the last part to the first,
+    /// so that the design has then just begun on the first, and `start` need not begin it again.
     pub fn try_parts(&mut self) -> Result<(), Fault>
-        ensures tried { Answers (part_refusal (plans D.Design self.old) (all_parts (tables_of self.old))) (λ _. Loaded (plans D.Design self.old) (tables_of self.new)) result }
+        ensures tried { Answers (part_refusal (plans D.Design self.old) (all_parts (tables_of self.old))) (λ _. IsReady D.Design self.new) result }
         ensures same { tables_of self.new ≡ with_shares (tables_of self.old) (tables_of self.new).shares }
         ensures settings { plans D.Design self.new ≡ plans D.Design self.old }
     {
+        let mut answer = Ok(());
         // By number, as parts are cut out of the list when they are asked for, and not stored.
-        for j in 0..self.table.count() {
-            self.try_part(j)?;
+        for j in (0..self.table.count()).rev() {
+            answer = self.try_part(j).and(answer);
         }
-        Ok(())
+        answer
     }
 }

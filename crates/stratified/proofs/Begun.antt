@@ -6,7 +6,8 @@ use Rattle.design.specs.Design.{in_run}
 use Rattle.design.specs.declared.fraction.Fraction.{Fraction}
 use Rattle.design.specs.declared.row.Row.{Row}
 use Rattle.parts.specs.Parts.{Part, bounds, same_stratum}
-use Rattle.parts.specs.Series.{Plans, nothing, series, chosen}
+use Rattle.design.specs.Plans.{Plans, nothing}
+use Rattle.parts.specs.Series.{series, chosen}
 use Rattle.parts.specs.Running.{Tables, all_parts, is_chosen, run_over, run_from, sample_of}
 use Rattle.parts.specs.Trying.{with_shares}
 use Rattle.parts.proofs.Places.{cut-length}

@@ -8,10 +8,11 @@ use Rattle.design.specs.Design.{Plan, refuses, accepts, Standing, in_run, SoundP
 use Rattle.design.specs.declared.fraction.Fraction.{Fraction}
 use Rattle.design.specs.declared.row.Row.{Row}
 use Rattle.parts.specs.Parts.{Part, bounds, same_cluster, place_of}
-use Rattle.parts.specs.Series.{Plans, denominator_of, denominators, part_refusal}
-use Rattle.parts.specs.Running.{Tables, all_parts, Loaded}
+use Rattle.design.specs.Plans.{Plans, denominator_of}
+use Rattle.parts.specs.Series.{denominators, part_refusal}
+use Rattle.parts.specs.Running.{Tables, all_parts, Begins, Loaded}
 use Rattle.layers.specs.TwoStage.{clusters, cluster_row, first_plan, first_refusal, stages, stage_denominators, too_large, product_refusal, stages_run}
-use Rattle.layers.specs.Stages.{units_of, denominator_at, Begins, in_first, Fits, FirstUnderway}
+use Rattle.layers.specs.Stages.{units_of, denominator_at, in_first, Fits, FirstUnderway}
 use Rattle.layers.proofs.TwoStagePlans.{product_small}
 use Rattle.two_stage.specs.Of.{cut_clusters, opening_refusal, large_product}
 use Rattle.two_stage.proofs.Cutting.{clusters_are}

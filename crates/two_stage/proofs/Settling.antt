@@ -1,15 +1,18 @@
 -- From the first stage to the second.
-use Rattle.std.proofs.Common.{◌≡◌, ℕ, ◌*◌, ◌^◌, ◌<◌, ◌≤◌, List, length, get_or, sym, refl, ap, ◌∙◌, subst, ap₂}
-use Rattle.outcomes.specs.Trees.{Lawful}
+use Rattle.std.proofs.Common.{◌≡◌, ℕ, ◌*◌, ◌^◌, ◌<◌, ◌≤◌, List, length, get_or, sym, refl, ap, ◌∙◌, subst, ap₂, arith}
+use Rattle.outcomes.specs.Trees.{Lawful, Sample}
 use Rattle.design.specs.Design.{Standing, no_run, in_run, ways_of}
 use Rattle.design.specs.declared.row.Row.{Row}
 use Rattle.parts.specs.Parts.{Part, cut, place_of}
-use Rattle.parts.specs.Series.{Plans, nothing, denominators}
+use Rattle.design.specs.Plans.{Plans, nothing}
+use Rattle.parts.specs.Series.{denominators}
 use Rattle.parts.specs.Copying.{outcome_of}
-use Rattle.parts.specs.Running.{Tables, all_parts, run_from, standing_of, Loaded, Intact}
+use Rattle.parts.specs.Running.{Tables, all_parts, run_from, standing_of, Loaded, AtPart, Ready, Intact}
 use Rattle.layers.specs.Stages.{in_first, in_second, Fits, FirstUnderway, InSecond}
 use Rattle.layers.proofs.Stages.{drawn}
-use Rattle.series.specs.Of.{SameList}
+use Rattle.series.specs.Of.{IsReady, SameList, plans, tables_of}
+use Rattle.series.specs.declared.Series.{Series}
+use Rattle.design.specs.declared.design.Design as Design
 use Rattle.series.specs.Moving.{Chosen}
 
 -- ---- the same list
@@ -33,13 +36,19 @@ second_same B v w (in_run r) no_run p n = refl
 second_same B v w (in_run r) (in_run s) p n =
     ap₂ (λ (ps : List Part) (rows : ℕ). in_run (record { tree = s.tree; units = rows; denominator = λ k. r.denominator (place_of 0 ps k) * denominators B ps k })) p n
 
+-- ---- the second stage begins, on the parts that are chosen; the second design has just begun on the first of all
+pub ready_chosen : {D : Type 0} (G : Design.Ghosts D) (s x : Series D) {c : Sample} → Loaded (plans G s) (tables_of s) → AtPart (G.intact s.below) (plans G s) (tables_of s) 0 (G.tree s.below)
+    → x.below ≡ s.below → Chosen c (tables_of s) (tables_of x) → IsReady G x
+ready_chosen {D} G s x {c} L at below ch =
+    subst (λ (b : D). Ready (G.intact b) (G.plan b) (tables_of x) (G.tree b)) (sym below)
+    (subst (λ (w : Tables). Ready (G.intact s.below) (G.plan s.below) w (G.tree s.below)) (sym ch.same) (record {
+      loaded = record { rising = L.rising; accepted = L.accepted; shares_are = L.shares_are };
+      at_first = λ l. at (omega (arith, l, ch.as_many));
+    }))
+
 -- ---- the second stage begins, on the parts that the first design has taken
 module _ (I : Type 0) (B : Plans) (v : Tables) (st : Standing) (u : FirstUnderway I B v st) (end : ways_of st ≡ 0) (count : length v.chosen ≡ length (all_parts v)) (w : Tables)
     (ch : Chosen (outcome_of st) v w) where
-  pub loaded_chosen : Loaded B w
-  loaded_chosen =
-      subst (Loaded B) (sym ch.same) (record { rising = u.loaded.rising; accepted = u.loaded.accepted; shares_are = u.loaded.shares_are })
-
   chosen_parts : all_parts w ≡ all_parts v
   chosen_parts = ap all_parts ch.same
 

@@ -9,7 +9,7 @@ use Rattle.design.specs.Design.{Standing, no_run, in_run, Shared, SoundStanding}
 use Rattle.design.specs.declared.fault.Fault.{Fault}
 use Rattle.design.specs.declared.fraction.Fraction.{Fraction}
 use Rattle.parts.specs.Seats.{Seated}
-use Rattle.parts.specs.Series.{Plans, fraction}
+use Rattle.design.specs.Plans.{Plans, fraction}
 use Rattle.parts.specs.Running.{Tables}
 use Rattle.parts.proofs.Places.{cut-length}
 use Rattle.layers.specs.Stages.{Fits, FirstUnderway}
@@ -48,7 +48,7 @@ as_answered st s k a b x h p q =
 -- ---- the stage, by what it is not
 pub first_underway : (stage : Stage) (I J : Type 0) (B : Plans) (v : Tables) (st su : Standing) → false ≡ sameb the_type stage Waiting → WholeIn stage I J B v st su → FirstUnderway I B v st
 first_underway Waiting I J B v st su e h = absurd (false≢true e)
-first_underway First I J B v st su e h = h.underway
+first_underway First I J B v st su e h = h.drawing.underway
 first_underway Second I J B v st su e h = h.underway
 
 pub in_second_stage : (stage : Stage) → false ≡ sameb the_type stage Waiting → false ≡ sameb the_type stage First → stage ≡ Second

@@ -3,22 +3,27 @@ use Rattle.std.proofs.Common.{◌≡◌, ℕ, ◌<◌, ◌≤◌, ◌⊎◌, len
 use Rattle.design.specs.Faults.{numbered, refusal}
 use Rattle.design.specs.Design.{Standing, Stepped, ways_of, below}
 use Rattle.design.specs.declared.fault.Fault.{Fault}
-use Rattle.parts.specs.Series.{Plans}
+use Rattle.design.specs.Plans.{Plans}
 use Rattle.parts.specs.Running.{Tables, Intact, Moved}
-use Rattle.layers.specs.Stages.{in_first, in_second, Fits, FirstUnderway, InFirst, InSecond}
+use Rattle.layers.specs.Stages.{in_first, in_second, Fits, Drawing, InFirst, InSecond}
 use Rattle.layers.proofs.Stages.{ways_first, below_first, ways_second, below_second, fits_below}
 use Rattle.series.specs.Of.{SameList}
 use Rattle.series.proofs.Moves.{stepped_by}
 use Rattle.two_stage.proofs.Settling.{parts_same, fits_same, second_same}
 
 -- the first design has gone on
-pub gone_on : (I I' : Type 0) (B : Plans) (v : Tables) (st st' : Standing) (d : ℕ) → InFirst I B v st → I' → d < ways_of st → st' ≡ below st d → FirstUnderway I' B v st'
-gone_on I I' B v st st' d h i l e = record { intact = i; loaded = h.underway.loaded; fits = subst (Fits B v) (sym e) (fits_below B v st d l h.underway.fits) }
+pub gone_on : (I I' J : Type 0) (B : Plans) (v : Tables) (st st' su : Standing) (d : ℕ) → InFirst I J B v st su → I' → d < ways_of st → st' ≡ below st d → Drawing I' J B v st' su
+gone_on I I' J B v st st' su d h i l e =
+    let u = h.drawing.underway in
+    record {
+      underway = record { intact = i; loaded = u.loaded; fits = subst (Fits B v) (sym e) (fits_below B v st d l u.fits) };
+      at_first = h.drawing.at_first;
+    }
 
-pub stepped_first : {U : Type 0} (r : Result U Fault) (I S : Type 0) (B : Plans) (v : Tables) (st st' now : Standing) (d : ℕ) → InFirst I B v st → d < ways_of st → st' ≡ below st d
+pub stepped_first : {U : Type 0} (r : Result U Fault) (S : Type 0) (B : Plans) (v : Tables) (st st' now : Standing) (d : ℕ) → 0 < ways_of st → d < ways_of st → st' ≡ below st d
     → Moved r S now (in_first B v st') → Stepped (in_first B v st) d r now × S
-stepped_first r I S B v st st' now d h l e m =
-    stepped_by r S now (in_first B v st') (in_first B v st) d m (ap (in_first B v) e ∙ below_first B v st d h.has_ways) (omega (arith, ways_first B v st h.has_ways, l))
+stepped_first r S B v st st' now d some l e m =
+    stepped_by r S now (in_first B v st') (in_first B v st) d m (ap (in_first B v) e ∙ below_first B v st d some) (omega (arith, ways_first B v st some, l))
 
 -- the second design has gone on, or refused
 pub stepped_second : {U : Type 0} (r : Result U Fault) (B C : Plans) (v w : Tables) (st su su' : Standing) (d : ℕ) → Fits B v st → C ≡ B → SameList v w → Stepped su d r su'

@@ -7,10 +7,11 @@ use Rattle.design.specs.Design.{Plan, Standing, no_run, in_run}
 use Rattle.design.specs.declared.design.Design as Design
 use Rattle.design.specs.declared.row.Row.{Row}
 use Rattle.parts.specs.Parts.{bounds, same_cluster, place_of}
-use Rattle.parts.specs.Series.{Plans, part_refusal}
+use Rattle.design.specs.Plans.{Plans}
+use Rattle.parts.specs.Series.{part_refusal}
 use Rattle.parts.specs.Running.{Tables, all_parts, share_at, standing_of}
 use Rattle.layers.specs.TwoStage.{cluster_row, first_refusal, product_refusal, stages_run, too_large}
-use Rattle.layers.specs.Stages.{denominator_at, in_first, in_second, FirstUnderway, InFirst, InSecond}
+use Rattle.layers.specs.Stages.{denominator_at, in_first, in_second, Drawing, InFirst, InSecond}
 use Rattle.series.specs.Of.{tables_of}
 use Rattle.series.specs.Tables.{newly_cut, asked}
 use Rattle.two_stage.specs.declared.TwoStage.{TwoStage}
@@ -26,7 +27,7 @@ stands_in Second B v st su = in_second B v st (standing_of B v su)
 -- the parts of the state belong together, by the stage; I and J say that the first and the second design are intact
 abbrev pub WholeIn : Stage → Type 0 → Type 0 → Plans → Tables → Standing → Standing → Type 0
 WholeIn Waiting I J B v st su = Unit {0}
-WholeIn First I J B v st su = InFirst I B v st
+WholeIn First I J B v st su = InFirst I J B v st su
 WholeIn Second I J B v st su = InSecond I J B v st su
 
 -- the same of a layer, over the meanings G of the first design and H of the second
@@ -38,7 +39,7 @@ IsWhole G H s = WholeIn s.stage (G.intact s.first) (H.intact s.second.below) (H.
 
 -- the first design runs, and may have finished
 abbrev pub IsDrawing : {A B : Type 0} → Design.Ghosts A → Design.Ghosts B → TwoStage A B → Type 0
-IsDrawing G H s = FirstUnderway (G.intact s.first) (H.plan s.second.below) (tables_of s.second) (G.tree s.first)
+IsDrawing G H s = Drawing (G.intact s.first) (H.intact s.second.below) (H.plan s.second.below) (tables_of s.second) (G.tree s.first) (H.tree s.second.below)
 
 -- what stands while the first design runs
 abbrev pub drawing : {A B : Type 0} → Design.Ghosts A → Design.Ghosts B → TwoStage A B → Standing

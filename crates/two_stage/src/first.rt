@@ -1,9 +1,9 @@
 ghost use Rattle.std.specs.Prelude.{◌≡◌, ℕ, ◌*◌, ◌^◌, ◌<◌, ◌≤◌, length, nat_lt};
 ghost use Rattle.design.specs.Faults.{Answers, refused_at};
 ghost use Rattle.design.specs.Lists.{first as first_that};
-ghost use Rattle.layers.specs.Stages.{units_of, denominator_at, Begins};
+ghost use Rattle.layers.specs.Stages.{units_of, denominator_at};
 ghost use Rattle.layers.specs.TwoStage.{first_refusal};
-ghost use Rattle.parts.specs.Running.{all_parts};
+ghost use Rattle.parts.specs.Running.{all_parts, Begins};
 ghost use Rattle.series.specs.Tables.{tables};
 ghost use Rattle.two_stage.specs.Of.{large_product};
 

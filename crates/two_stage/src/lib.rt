@@ -187,7 +187,7 @@ impl<A: Design, B: Design> Design for TwoStage<A, B> {
             let within = self.second.table.prescribed(k as usize);
             return Ok(first.times(within));
         }
-        // The first stage has come to its outcome, so its share is the whole.
+        // The first stage has come to its outcome: a taken cluster has the whole as its share, and a unit of any other has 0 in the series.
         let taken = Fraction::new(first.denominator, first.denominator);
         let within = self.second.share(k)?;
         Ok(taken.times(within))

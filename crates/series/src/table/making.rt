@@ -45,6 +45,7 @@ impl Table {
             samples: BoundedVec::new(heap)?,
             chosen: BoundedVec::new(heap)?,
             stage: 0,
+            moved: false,
         })
     }
 
@@ -62,6 +63,7 @@ impl Table {
         self.samples.fill(count, 0);
         self.chosen.fill(count, true);
         self.stage = 0;
+        self.moved = false;
     }
 
     /// Refuses an empty list, one of too many rows, and the first row that falls, and then changes nothing; else cuts the list into

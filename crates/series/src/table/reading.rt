@@ -1,6 +1,6 @@
 ghost use Rattle.std.specs.Prelude.{◌≡◌, ℕ, ◌+◌, ◌<◌, ◌≤◌, length, replicate, MatchBool, ◌==◌};
 ghost use Rattle.parts.specs.Bounds.{Rising};
-ghost use Rattle.parts.specs.Running.{all_parts, first_row_of, has_present, part_at, sample_of, share_at};
+ghost use Rattle.parts.specs.Running.{all_parts, first_row_of, has_present, is_chosen, part_at, sample_of, share_at};
 ghost use Rattle.parts.specs.Seats.{Seated};
 ghost use Rattle.series.specs.Tables.{tables, asked};
 
@@ -83,6 +83,13 @@ impl Table {
     {
         let none = Fraction::new(0, 0);
         self.shares.as_slice().get(k).copied().unwrap_or(none)
+    }
+
+    /// Whether part j is chosen; past the last part, none is.
+    pub fn is_chosen(&self, j: usize) -> bool
+        ensures { result ≡ is_chosen (tables self.now) j }
+    {
+        self.chosen.as_slice().get(j).copied().unwrap_or(false)
     }
 
     /// Whether there is a present part.

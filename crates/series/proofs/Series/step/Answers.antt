@@ -1,10 +1,10 @@
 use Rattle.std.proofs.Common.{◌≡◌, true, cond, sym, ap, ◌∙◌, subst, arith}
 use Rattle.design.specs.Design.{Stepped, ways_of}
-use Rattle.parts.specs.Running.{Underway, has_present, standing_of}
-use Rattle.parts.specs.Series.{Plans}
+use Rattle.parts.specs.Running.{Underway, gone_on, has_present, standing_of}
+use Rattle.design.specs.Plans.{Plans}
 use Rattle.parts.proofs.Stepping.{ways_are, present_intact, stepped_down}
 use Rattle.series.specs.Of.{IsIntact, plans, standing, tables_of}
-use Rattle.series.proofs.Moves.{stepped_by}
+use Rattle.series.proofs.Moves.{stepped_by, same_gone}
 use Rattle.series.proofs.Series.step.Given as given
 use Rattle.series.proofs.Series.step.Goals as goal
 
@@ -24,14 +24,14 @@ both g c h =
     let gone = c.in_ok-step.ensures.stepped i in
     let down = stepped_down I (g.D.Design.intact c.step.new.self) B v st to c.args.d h.underway has (c.step.ensures.whole i) gone.0 gone.1 in
     let ways : ways_of (standing g.D.Design s) ≡ ways_of st = ways_are I B v st h ∙ ap (λ b. cond b (ways_of st) 0) has in
-    stepped_by c.settle.result (IsIntact g.D.Design x) (standing g.D.Design x) (standing_of C v to) (standing g.D.Design s) c.args.d
-    (c.settle.ensures.settled (subst (λ (P : Plans). Underway (g.D.Design.intact c.step.new.self) P v to) (sym c.step.ensures.settings) down.0))
-    (ap (λ (P : Plans). standing_of P v to) c.step.ensures.settings ∙ down.1) (omega (arith, ways, gone.0))
+    stepped_by c.settle.result (IsIntact g.D.Design x) (standing g.D.Design x) (standing_of C (gone_on v) to) (standing g.D.Design s) c.args.d
+    (c.settle.ensures.settled (subst (λ (P : Plans). Underway (g.D.Design.intact c.step.new.self) P (gone_on v) to) (sym c.step.ensures.settings) down.0))
+    (ap (λ (P : Plans). standing_of P (gone_on v) to) c.step.ensures.settings ∙ down.1) (omega (arith, ways, gone.0))
 
 pub returns : goal.returns
 returns g c = record {
   stepped = λ h. (both g c h).0;
   whole = λ h. (both g c h).1;
-  same = c.settle.ensures.same;
+  same = same_gone (tables_of c.args.self.now) (tables_of c.settle.new.self) c.settle.ensures.same;
   settings = c.settle.ensures.settings ∙ c.step.ensures.settings;
 }

@@ -1,5 +1,5 @@
 use Rattle.std.proofs.Common.{◌≡◌}
-use Rattle.parts.specs.Trying.{with_shares, Trial}
+use Rattle.parts.specs.Trying.{with_shares, TriedFrom}
 use Rattle.series.specs.Of.{plans, tables_of}
 use Rattle.series.proofs.Series.try_parts.Given as goal
 
@@ -7,4 +7,4 @@ abbrev pub invariant-loop-j : goal.invariant-loop-j
 invariant-loop-j g l =
     (plans g.D.Design l.self ≡ plans g.D.Design l.initial.self)
     × (tables_of l.self ≡ with_shares (tables_of l.initial.self) (tables_of l.self).shares)
-    × Trial (plans g.D.Design l.initial.self) (tables_of l.initial.self) (tables_of l.self).shares l.j
+    × TriedFrom (g.D.Design.intact l.self.below) (plans g.D.Design l.initial.self) (tables_of l.initial.self) (tables_of l.self).shares l.j (g.D.Design.tree l.self.below) l.answer

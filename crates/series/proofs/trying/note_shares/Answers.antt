@@ -1,6 +1,6 @@
 use Rattle.std.proofs.Common.{rules}
 use Rattle.parts.specs.Running.{no_share}
-use Rattle.parts.specs.Series.{share_of}
+use Rattle.design.specs.Plans.{share_of}
 use Rattle.parts.proofs.Copying.{written_by, share_found}
 use Rattle.series.proofs.trying.note_shares.Goals as goal
 

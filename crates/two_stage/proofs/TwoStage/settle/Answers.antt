@@ -1,16 +1,17 @@
 use Rattle.std.proofs.Common.{◌≡◌, length, sym, ap, ◌∙◌, subst, arith}
 use Rattle.design.specs.Design.{ways_of}
-use Rattle.parts.specs.Series.{Plans, nothing}
+use Rattle.design.specs.Plans.{Plans, nothing}
 use Rattle.parts.specs.Copying.{Over}
-use Rattle.parts.specs.Running.{all_parts, run_from, Loaded}
+use Rattle.parts.specs.Running.{all_parts, run_from}
 use Rattle.layers.proofs.Stages.{fits_over}
 use Rattle.series.specs.Of.{plans, tables_of}
 use Rattle.series.proofs.Tabled.{counted}
-use Rattle.two_stage.proofs.Settling.{loaded_chosen, settled}
+use Rattle.two_stage.proofs.Settling.{ready_chosen, settled}
 use Rattle.two_stage.proofs.TwoStage.settle.Goals as goal
 
 pub returns-in_err-start-clause-settled : goal.returns-in_err-start-clause-settled
-returns-in_err-start-clause-settled g c u =
+returns-in_err-start-clause-settled g c d =
+    let u = d.underway in
     let s = c.args.self.now in
     let v = tables_of s.second in
     let st = g.A.Design.tree s.first in
@@ -19,11 +20,11 @@ returns-in_err-start-clause-settled g c u =
     let end : ways_of st ≡ 0 = sym (c.ways.ensures u.intact) ∙ c.if-ways-eq0.true in
     let count : length v.chosen ≡ length (all_parts v) = omega (arith, counted s.second.table) in
     let ch = c.choose.ensures.chosen u.intact (subst (Over st) (sym count) (fits_over B v st u.fits end)) in
-    let L = loaded_chosen (g.A.Design.intact s.first) B v st u end count (tables_of x) ch in
-    absurd (c.in_err-start.ensures.started (subst (λ (P : Plans). Loaded P (tables_of x)) (sym (ap (λ d. g.B.Design.plan d) c.choose.ensures.below)) L))
+    absurd (c.in_err-start.ensures.started (ready_chosen g.B.Design s.second x u.loaded d.at_first c.choose.ensures.below ch))
 
 pub returns-in_ok-start-clause-settled : goal.returns-in_ok-start-clause-settled
-returns-in_ok-start-clause-settled g c u =
+returns-in_ok-start-clause-settled g c d =
+    let u = d.underway in
     let s = c.args.self.now in
     let v = tables_of s.second in
     let st = g.A.Design.tree s.first in
@@ -34,8 +35,7 @@ returns-in_ok-start-clause-settled g c u =
     let end : ways_of st ≡ 0 = sym (c.ways.ensures u.intact) ∙ c.if-ways-eq0.true in
     let count : length v.chosen ≡ length (all_parts v) = omega (arith, counted s.second.table) in
     let ch = c.choose.ensures.chosen u.intact (subst (Over st) (sym count) (fits_over B v st u.fits end)) in
-    let L = loaded_chosen I B v st u end count (tables_of x) ch in
     let same : plans g.B.Design x ≡ B = ap (λ d. g.B.Design.plan d) c.choose.ensures.below in
-    let m = c.in_ok-start.ensures.started (subst (λ (P : Plans). Loaded P (tables_of x)) (sym same) L) in
+    let m = c.in_ok-start.ensures.started (ready_chosen g.B.Design s.second x u.loaded d.at_first c.choose.ensures.below ch) in
     settled I B v st u end count (tables_of x) ch (g.B.Design.intact y.below) (plans g.B.Design y) (tables_of y) (g.B.Design.tree y.below)
     (c.start.ensures.settings ∙ same) c.start.ensures.same m.0 (m.1 ∙ ap (λ (P : Plans). run_from P (tables_of x) 0 nothing) same)

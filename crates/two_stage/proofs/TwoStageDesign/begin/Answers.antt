@@ -5,7 +5,8 @@ use Rattle.design.specs.Design.{Plan, Standing, no_run, in_run, Began}
 use Rattle.design.proofs.Firsts.{accepted, refused_by}
 use Rattle.design.specs.declared.row.Row.{Row}
 use Rattle.parts.specs.Parts.{bounds, same_cluster}
-use Rattle.parts.specs.Series.{Plans, part_refusal}
+use Rattle.design.specs.Plans.{Plans}
+use Rattle.parts.specs.Series.{part_refusal}
 use Rattle.layers.specs.TwoStage.{clusters, first_plan, clusters_refusal, first_refusal, product_refusal, stage_numerators, stages_run, two_stage_plan}
 use Rattle.layers.proofs.Standings.{refused_as, begun_moved}
 use Rattle.series.specs.Of.{plans, tables_of}

@@ -37,9 +37,9 @@ returns-then-eq-2 g c h =
     let stage = in_first_stage s.stage c.if-eq-2.ensures in
     let f = subst (λ (z : Stage). WholeIn z I J B v st su) stage h in
     let l : k < length v.rows = omega (arith, c.if-k-units.false, c.units.ensures) in
-    let L = f.underway.loaded in
+    let L = f.drawing.underway.loaded in
     let first = c.in_ok-first.first in
-    let shares = shared_first B law v L st f.underway.fits k c.part_of-cluster.result l (c.part_of-cluster.ensures l) first.numerator first.denominator (c.in_ok-first.ensures f.underway.intact) in
+    let shares = shared_first B law v L st f.drawing.underway.fits k c.part_of-cluster.result l (c.part_of-cluster.ensures l) first.numerator first.denominator (c.in_ok-first.ensures f.drawing.underway.intact) in
     let sound = exact_stages First I J B law v st su f (g.met.A.Design.exact s.first) (g.met.B.Design.exact s.second.below) in
     let within = c.prescribed-within.ensures ∙ L.shares_are k l in
     subst (λ (z : Stage). Shared (stands_in z B v st su) k (Ok c.times.result)) (sym stage)

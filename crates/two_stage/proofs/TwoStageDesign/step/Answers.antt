@@ -18,11 +18,11 @@ returns-in_ok-step-in-First-clause-stepped g c h =
     let su = g.B.Design.tree s.second.below in
     let f = subst (λ (z : Stage). WholeIn z I (g.B.Design.intact s.second.below) B v st su) c.in-First.is h in
     let x = c.settle.new.self in
-    let i = f.underway.intact in
+    let i = f.drawing.underway.intact in
     let gone = c.in_ok-step-in-First.ensures.stepped i in
-    let u = gone_on I I' B v st st' c.args.d f (c.step.ensures.whole i) gone.0 gone.1 in
+    let u = gone_on I I' (g.B.Design.intact s.second.below) B v st st' su c.args.d f (c.step.ensures.whole i) gone.0 gone.1 in
     subst (λ (z : Stage). Stepped (stands_in z B v st su) c.args.d c.settle.result (stands g.A.Design g.B.Design x)) (sym c.in-First.is)
-    (stepped_first c.settle.result I (IsWhole g.A.Design g.B.Design x) B v st st' (stands g.A.Design g.B.Design x) c.args.d f gone.0 gone.1 (c.settle.ensures.settled u)).0
+    (stepped_first c.settle.result (IsWhole g.A.Design g.B.Design x) B v st st' (stands g.A.Design g.B.Design x) c.args.d f.has_ways gone.0 gone.1 (c.settle.ensures.settled u)).0
 
 pub returns-in-Second-clause-stepped : goal.returns-in-Second-clause-stepped
 returns-in-Second-clause-stepped g c h =
