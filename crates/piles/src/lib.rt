@@ -1,5 +1,8 @@
-//! Piles of layers over designs, run as tests.
+//! Piles of layers over designs: what a whole pile does, stated and run as tests.
 #![tactic(auto)]
 
-mod faults;
+#[cfg(test)]
+mod makers;
+mod refusals;
 mod shares;
+pub mod whole;
