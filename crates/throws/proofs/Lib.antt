@@ -1,1 +1,1 @@
-mod Throwing
+pub mod Throwing

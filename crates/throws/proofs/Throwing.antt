@@ -1,11 +1,24 @@
 -- When a throw is dry, and how often each answer stands among the words that serve.
-use Rattle.std.proofs.Common.{◌≡◌, ℕ, zero, suc, ◌+◌, ◌*◌, ◌/◌, ◌%◌, ◌^◌, ◌<◌, Bool, true, false, cond, eqb, ltb, List, [], ◌∷◌, Err, sym, refl, ap, ◌∙◌, mod-eq_of_lt, arith}
+use Rattle.std.proofs.Common.{◌≡◌, ℕ, zero, suc, ◌+◌, ◌*◌, ◌/◌, ◌%◌, ◌^◌, ◌<◌, Bool, true, false, cond, eqb, ltb, List, [], ◌∷◌, Ok, Err, sym, refl, ap, ◌∙◌, mod-eq_of_lt, mod-lt, arith}
 use native.Mathlib.Nat.{add-mul-mod_self_right}
 use Rattle.std.proofs.lemmas.Bool.{ltb-false, le-ltb, eq-eqb, ne_eqb, cond-true}
 use Rattle.outcomes.specs.Sums.{sum, count}
 use Rattle.outcomes.proofs.Sums.{sum_same, sum_single, sum_split}
 use Rattle.design.specs.Faults.{refusal}
-use Rattle.throws.specs.Words.{limit, serving, remainder, rest, in_range, AllFrom, DryExactly, EachAsOften}
+use Rattle.throws.specs.Words.{limit, serving, remainder, rest, in_range, thrown, AllFrom, DryExactly, EachAsOften}
+
+-- ---- an answer is below the ways
+remainder_below : (m : ℕ) (ws : List ℕ) (d : ℕ) → 0 < m → remainder m ws ≡ Ok d → d < m
+remainder_below m [] d l e = absurd (let z : ◌≡◌ {A = ℕ} 0 1 = cc in (let y : ⊥ = omega arith in y))
+remainder_below m (w ∷ ws) d l e = let same : w % m ≡ d = cc in omega (arith, same, mod-lt w l)
+
+pub thrown_below : (m : ℕ) (ws : List ℕ) (d : ℕ) → thrown m ws ≡ Ok d → d < m
+thrown_below zero ws d e = absurd (let z : ◌≡◌ {A = ℕ} 0 1 = cc in (let y : ⊥ = omega arith in y))
+thrown_below (suc m) ws d e = go (in_range (suc m)) e
+  where
+    go : (b : Bool) → cond b (remainder (suc m) (serving (limit (suc m)) ws)) (Err (refusal 20)) ≡ Ok d → d < suc m
+    go true h = remainder_below (suc m) (serving (limit (suc m)) ws) d (omega arith) h
+    go false h = absurd (let z : ◌≡◌ {A = ℕ} 0 1 = cc in (let y : ⊥ = omega arith in y))
 
 -- ---- dry
 all_above : (l : ℕ) (ws : List ℕ) → serving l ws ≡ [] → AllFrom l ws

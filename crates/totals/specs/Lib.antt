@@ -1,0 +1,4 @@
+pub mod Rows
+pub mod Additions
+pub mod Totals
+pub mod Kinds

@@ -1,0 +1,4 @@
+pub mod Scale
+pub mod Laws
+pub mod Begun
+pub mod Of
