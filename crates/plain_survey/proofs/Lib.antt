@@ -1,0 +1,4 @@
+pub mod Shares
+pub mod Averages
+pub mod Reports
+pub mod Starts

@@ -1,0 +1,5 @@
+pub mod States
+pub mod Calls
+pub mod Reports
+pub mod Laws
+pub mod Asking

@@ -1,0 +1,3 @@
+pub mod Means
+pub mod Adding
+pub mod Conducting
