@@ -1,5 +1,6 @@
 -- The weights as they are worked out, unit by unit.
 use Rattle.std.proofs.Common.{◌≡◌, ℕ, ◌+◌, ◌*◌, ◌/◌, ◌<◌, ◌≤◌, max, List, [], ◌∷◌, ◌++◌, length, slice_index, None, Ok, Err, sym, ap, ap₂, ◌∙◌, inl, inr, ◌⊎◌, arith}
+use Rattle.std.proofs.Math.Nat.{div-div-eq-div-mul, mul-div_cancel, mul_assoc, mul_comm}
 use Rattle.std.proofs.lemmas.Bool.{lt-ltb, le-ltb, cases_lt, cases_order}
 use Rattle.std.proofs.lemmas.List.{get_or_append_left, get_or_push, get_or_past, length_push}
 use Rattle.design.proofs.Firsts.{first_here, first_more, answers_at}
@@ -10,16 +11,26 @@ use Rattle.design.specs.declared.fault.Fault.{Fault}
 use Rattle.design.specs.declared.fraction.Fraction.{Fraction}
 use Rattle.design.specs.declared.row.Row.{Row}
 use Rattle.weights.specs.Begun.{HaveWeights, JustBegun}
-use Rattle.weights.specs.Scale.{NoneTooHeavy, design_weight, too_heavy, top, bottom, weight_refusal}
-use Rattle.weights.proofs.Divisors.{top_positive}
+use Rattle.weights.specs.Scale.{NoneTooHeavy, design_weight, gcd, too_heavy, top, bottom, weight_refusal}
+use Rattle.weights.proofs.Divisors.{bottom_times, gcd_positive, top_times}
 use Rattle.weights.proofs.Prescribed.{prescribed, all_some}
 
--- a weight as it is worked out of the scale s, and q over p in lowest terms
-pub weight_is : (scale n d s q p m : ℕ) → 0 < n → s ≡ scale → q ≡ bottom n d → p ≡ top n d → m ≡ max p 1 → s * q / m ≡ design_weight scale n d
+-- the scale times a share turned over is the weight: lowest terms make no difference
+turned_over : (scale n d : ℕ) → 0 < n → scale * d / n ≡ design_weight scale n d
+turned_over scale n d some =
+    let g = gcd n d in
+    let above : 0 < g = gcd_positive n d some in
+    let dividend : scale * bottom n d * g ≡ scale * d = mul_assoc scale (bottom n d) g ∙ ap (λ x. scale * x) (bottom_times n d) in
+    let divisor : g * top n d ≡ n = mul_comm g (top n d) ∙ top_times n d in
+    ap₂ (λ x y. x / y) (sym dividend) (sym divisor)
+    ∙ sym (div-div-eq-div-mul (scale * bottom n d * g) g (top n d))
+    ∙ ap (λ x. x / top n d) (mul-div_cancel (scale * bottom n d) above)
+
+-- a weight as it is worked out of the scale s and the share p over q
+pub weight_is : (scale n d s q p m : ℕ) → 0 < n → s ≡ scale → q ≡ d → p ≡ n → m ≡ max p 1 → s * q / m ≡ design_weight scale n d
 weight_is scale n d s q p m some e f g h =
-    let above : 0 < top n d = top_positive n d some in
-    let whole : m ≡ top n d = omega (arith, above, g, h) in
-    ap₂ (λ x y. x / y) (ap₂ (λ x y. x * y) e f) whole
+    let whole : m ≡ n = omega (arith, some, g, h) in
+    ap₂ (λ x y. x / y) (ap₂ (λ x y. x * y) e f) whole ∙ turned_over scale n d some
 
 -- the weight of a unit of a design that has just begun
 pub weight_of_unit : (I : Type 0) (standing : Standing) (units : ℕ) (list : List Row) (num : ℕ → ℕ) (run : Run) (k : ℕ) (share : Fraction) (scale weight : ℕ)

@@ -3,7 +3,6 @@ ghost use Rattle.design.specs.Faults.{Answers};
 ghost use Rattle.weights.specs.Begun.{HaveWeights, OfPrescribed};
 ghost use Rattle.weights.specs.Scale.{NoneTooHeavy, design_weight, weight_refusal};
 
-use crate::terms::lowest_terms;
 use bounded::BoundedVec;
 use design::check::MOST_ROWS;
 use design::design::Design;
@@ -13,12 +12,11 @@ use design::fraction::Fraction;
 /// The largest design weight that a unit may have.
 pub const LARGEST_WEIGHT: u32 = 1_000_000_000;
 
-// The scale times the share, in lowest terms, turned over: 128 bits hold the product of any two such numbers.
+// The scale times the share turned over, which is the same in lowest terms or not: 128 bits hold the product of any two such numbers.
 fn weight_of(scale: u32, share: Fraction) -> u128
     ensures { 0 < share.numerator → result ≡ design_weight scale share.numerator share.denominator }
 {
-    let lowest = lowest_terms(share);
-    u128::from(scale) * u128::from(lowest.denominator) / u128::from(lowest.numerator.max(1))
+    u128::from(scale) * u128::from(share.denominator) / u128::from(share.numerator.max(1))
 }
 
 /// Notes the weight of each of so many units of a design that has just begun, or refuses the first one whose weight is too large.

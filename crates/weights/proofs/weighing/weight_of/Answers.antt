@@ -1,8 +1,8 @@
-use Rattle.std.proofs.Common.{◌∙◌}
+use Rattle.std.proofs.Common.{refl, ◌∙◌}
 use Rattle.weights.proofs.Weighed.{weight_is}
 use Rattle.weights.proofs.weighing.weight_of.Goals as goal
 
 pub returns : goal.returns
 returns c some =
-    weight_is c.args.scale c.args.share.numerator c.args.share.denominator c.from.result c.from-2.result c.lowest_terms-lowest.result.numerator c.from-3.result some
-    c.from.ensures (c.from-2.ensures ∙ c.lowest_terms-lowest.ensures.denominator) c.lowest_terms-lowest.ensures.numerator (c.from-3.ensures ∙ c.max.ensures)
+    weight_is c.args.scale c.args.share.numerator c.args.share.denominator c.from.result c.from-2.result c.args.share.numerator c.from-3.result some
+    c.from.ensures c.from-2.ensures refl (c.from-3.ensures ∙ c.max.ensures)
