@@ -89,8 +89,12 @@ mod tests {
     #[test]
     fn numbers_and_text(rt: HostRuntime) -> Result<(), Fail> {
         assert_eq!(rt;
-            (Reason::ShareAboveOne.number(), Reason::Dry.number()),
-            (6, 21)
+            [
+                Reason::TotalTooLarge.number(),
+                Reason::ShareAboveOne.number(),
+                Reason::Dry.number(),
+            ],
+            [5, 6, 21]
         );
         let text = format!(in rt.alloc(); "{}", Fault::at(Reason::ShareAboveOne, 7))?;
         assert_eq!(rt; text.as_str(), "fault 6 at row 7, depth 0");
