@@ -1,0 +1,69 @@
+-- The written form of a frame, and the ranges of its numbers.
+use Rattle.std.specs.Prelude.{ℕ, ◌≤◌, pos, negsuc, ◌≤ℤ◌, List, [], ◌∷◌, ◌++◌, map, length, decimal, All}
+use Rattle.std.specs.Fmt.{signed_decimal}
+use Rattle.std.specs.List.{concat}
+use Rattle.frame_file.specs.declared.frame.Header.{Header}
+use Rattle.frame_file.specs.declared.frame.FrameUnit.{FrameUnit}
+use Rattle.frame_file.specs.declared.frame.Frame.{Frame}
+
+-- a header of which nothing is read
+abbrev pub no_header : Header
+no_header = record { n = 0; m = 0; seed = 0 }
+
+-- ---- lines
+-- fields with commas between them; and with the end byte behind the last
+abbrev pub commas : List (List ℕ) → List ℕ
+commas [] = []
+commas (f ∷ []) = f
+commas (f ∷ g ∷ fs) = f ++ 44 ∷ commas (g ∷ fs)
+
+abbrev pub line : List (List ℕ) → List ℕ
+line fs = commas fs ++ 10 ∷ []
+
+-- ---- what stands in each line
+abbrev pub header_fields : Header → List (List ℕ)
+header_fields h = decimal h.n ∷ decimal h.m ∷ decimal h.seed ∷ []
+
+abbrev pub takes_fields : List ℕ → List (List ℕ)
+takes_fields takes = map decimal takes
+
+abbrev pub unit_fields : FrameUnit → List (List ℕ)
+unit_fields u = decimal u.row.stratum ∷ decimal u.row.cluster ∷ decimal u.row.size ∷ signed_decimal u.money ∷ decimal u.cell.at ∷ []
+
+abbrev pub units_written : List FrameUnit → List ℕ
+units_written units = concat (map (λ u. line (unit_fields u)) units)
+
+-- the bytes of a frame
+abbrev pub written : Frame → List ℕ
+written f = line (header_fields f.header) ++ line (takes_fields f.takes) ++ units_written f.units
+
+-- ---- ranges
+abbrev pub Between : ℕ → ℕ → ℕ → Type 0
+Between low high n = (low ≤ n) × (n ≤ high)
+
+pub record HeaderFits (h : Header) : Type 0 where
+  pub n : Between 1 1024 h.n
+  pub m : Between 1 1024 h.m
+  pub seed : Between 1 4294967295 h.seed
+
+pub record TakesFit (takes : List ℕ) : Type 0 where
+  pub each : All (Between 1 1024) takes
+  pub count : Between 1 64 (length takes)
+
+pub record UnitFits (u : FrameUnit) : Type 0 where
+  pub stratum : u.row.stratum ≤ 65535
+  pub cluster : u.row.cluster ≤ 65535
+  pub size : Between 1 10000 u.row.size
+  pub money_low : negsuc 999999 ≤ℤ u.money
+  pub money_high : u.money ≤ℤ pos 1000000
+  pub cell : u.cell.at ≤ 5
+
+pub record UnitsFit (units : List FrameUnit) : Type 0 where
+  pub each : All UnitFits units
+  pub count : Between 1 1024 (length units)
+
+-- every number of a frame is in its range, and so are the counts
+pub record Fits (f : Frame) : Type 0 where
+  pub header : HeaderFits f.header
+  pub takes : TakesFit f.takes
+  pub units : UnitsFit f.units

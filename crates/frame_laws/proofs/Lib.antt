@@ -1,0 +1,10 @@
+pub mod Parted
+pub mod Numbers
+pub mod Amounts
+pub mod FieldSteps
+pub mod LineSteps
+pub mod FirstSpots
+pub mod WrittenParts
+pub mod WrittenLengths
+pub mod WrittenAccepted
+pub mod WrittenOnce

@@ -1,0 +1,14 @@
+//! The laws of the frame file: what its definitions say of each other, and the lemmas that its reader rests on; no running code.
+#![tactic(auto)]
+
+ghost use Rattle.frame_laws.specs.Laws.{ElseNothingWrong, NumbersAsWritten, RefusedAtFirst, WrittenIsAccepted, WrittenOnce};
+
+/// A number is a field exactly as it is written; the refusal of a file is the first spot that is wrong, each judged alone, and there is
+/// just one; what is written of a frame in range is accepted, and is written of no other frame.
+pub fn frame_files_stand()
+    ensures numbers_as_written { NumbersAsWritten }
+    ensures refused_at_first { RefusedAtFirst }
+    ensures else_nothing_wrong { ElseNothingWrong }
+    ensures written_is_accepted { WrittenIsAccepted }
+    ensures written_once { WrittenOnce }
+{}

@@ -1,0 +1,7 @@
+mod Exits
+mod Cuts
+mod Digits
+mod Columns
+mod Takes
+mod LinesRead
+mod Promises
