@@ -1,0 +1,12 @@
+mod Values
+mod Failures
+mod InOrder
+mod Lines
+mod Frames
+mod Questions
+mod Tallies
+mod Starts
+mod Draws
+mod Ends
+mod Printing
+mod OneResponses
