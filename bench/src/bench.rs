@@ -124,24 +124,32 @@ fn main() -> ExitCode {
     println!("| call | proved, µs | plain Rust, µs | ratio |\n|---|---|---|---|");
     let mut same = true;
     for (units, n) in [(100, 10), (1024, 60)] {
-        let list = list(units);
-        let sizes: Vec<u32> = list.iter().map(|row| row.size).collect();
-        let times = 200_000 / units as u32;
-        for (method, name) in ["systematic", "pivotal", "Poisson"].iter().enumerate() {
-            let mut designs: [Box<dyn FnMut(u32, bool) -> u64>; 3] = [
-                Box::new(|times, draw| if draw { draw_often(&mut Systematic::default(), &list, n, 7, times) } else { begin_often(&mut Systematic::default(), &list, n, times) }),
-                Box::new(|times, draw| if draw { draw_often(&mut Pivotal::default(), &list, n, 7, times) } else { begin_often(&mut Pivotal::default(), &list, n, times) }),
-                Box::new(|times, draw| if draw { draw_often(&mut Poisson::default(), &list, n, 7, times) } else { begin_often(&mut Poisson::default(), &list, n, times) }),
-            ];
-            let plain = std::cell::RefCell::new(&mut designs[method]);
-            let call = |what: &str| format!("{what}, {name}, {units} units");
-            same &= time(&call("begin"), times, |times| proved::begin(method as u8, &sizes, n, times) as i64, |times| (*plain.borrow_mut())(times, false) as i64);
-            same &= time(&call("whole draw"), times, |times| proved::draw(method as u8, &sizes, n, 7, times) as i64, |times| (*plain.borrow_mut())(times, true) as i64);
-        }
+        same &= plain_design::<Systematic>(0, "systematic", units, n);
+        same &= plain_design::<Pivotal>(1, "pivotal", units, n);
+        same &= plain_design::<Poisson>(2, "Poisson", units, n);
     }
     same &= layers_and_reports();
     same &= whole_calls();
     if same { ExitCode::SUCCESS } else { ExitCode::FAILURE }
+}
+
+fn plain_design<D: Design + Default>(method: u8, name: &str, units: usize, n: u32) -> bool {
+    let list = list(units);
+    let sizes: Vec<u32> = list.iter().map(|row| row.size).collect();
+    let times = 200_000 / units as u32;
+    let begun = time(
+        &format!("begin, {name}, {units} units"),
+        times,
+        |times| proved::begin(method, &sizes, n, times) as i64,
+        |times| begin_often(&mut D::default(), &list, n, times) as i64,
+    );
+    let drawn = time(
+        &format!("whole draw, {name}, {units} units"),
+        times,
+        |times| proved::draw(method, &sizes, n, 7, times) as i64,
+        |times| draw_often(&mut D::default(), &list, n, 7, times) as i64,
+    );
+    begun && drawn
 }
 
 fn layers_and_reports() -> bool {

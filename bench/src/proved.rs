@@ -2,7 +2,7 @@
 
 use crate::plain::Row;
 
-// A value of Rattle's type Global takes no bytes and is not passed; a slice is a pointer and a length.
+// The library's values of type Global take no bytes and are not passed; a slice is a pointer and a length.
 unsafe extern "C" {
     fn juntzero_respond(input: *const u8, len: usize, output: *mut u8, room: usize) -> usize;
     fn juntzero_respond_often(input: *const u8, len: usize, times: u32) -> u64;

@@ -15,6 +15,12 @@ fn parts(list: &[Row], alike: impl Fn(&Row, &Row) -> bool) -> Vec<Range<usize>> 
     parts
 }
 
+// A row for each cluster: its first row, with the sum of its sizes.
+fn heads(list: &[Row], clusters: &[Range<usize>]) -> Vec<Row> {
+    let size = |part: &Range<usize>| list[part.clone()].iter().map(|row| row.size).sum();
+    clusters.iter().map(|part| Row { size: size(part), ..list[part.start] }).collect()
+}
+
 /// A design on chosen parts of a list, one after another.
 #[derive(Default)]
 struct Series<D> {
@@ -249,11 +255,7 @@ impl<A: Design, B: Design> Design for TwoStage<A, B> {
         if clusters.len() > 128 {
             return Err(Fault::at(15, clusters[128].start));
         }
-        let heads: Vec<Row> = clusters
-            .iter()
-            .map(|part| Row { size: list[part.clone()].iter().map(|row| row.size).sum(), ..list[part.start] })
-            .collect();
-        self.first.begin(&heads, n / self.m).map_err(|fault| fault.up(clusters[fault.row as usize].start))?;
+        self.first.begin(&heads(list, &clusters), n / self.m).map_err(|fault| fault.up(clusters[fault.row as usize].start))?;
         let samples = vec![self.m; clusters.len()];
         self.second.load(list, clusters, samples);
         self.second.try_all()?;

@@ -2,6 +2,7 @@
 
 use super::Row;
 
+#[derive(Default)]
 pub struct Frame {
     pub n: u32,
     pub m: u32,
@@ -84,41 +85,50 @@ impl<'a> Fields<'a> {
     }
 }
 
+impl Frame {
+    fn read_header(&mut self, mut fields: Fields) -> Result<(), Wrong> {
+        self.n = fields.next(|f| natural(f, 1, 1024))? as u32;
+        self.m = fields.next(|f| natural(f, 1, 1024))? as u32;
+        self.seed = fields.next(|f| natural(f, 1, 4_294_967_295))? as u32;
+        fields.end()
+    }
+
+    fn read_takes(&mut self, mut fields: Fields) -> Result<(), Wrong> {
+        while self.takes.len() < 64 && (fields.rest.is_some() || self.takes.is_empty()) {
+            self.takes.push(fields.next(|f| natural(f, 1, 1024))? as u32);
+        }
+        fields.end()
+    }
+
+    fn read_unit(&mut self, mut fields: Fields) -> Result<(), Wrong> {
+        if self.list.len() == 1024 {
+            return Err((32, fields.line, 1));
+        }
+        let stratum = fields.next(|f| natural(f, 0, 65_535))? as u16;
+        let cluster = fields.next(|f| natural(f, 0, 65_535))? as u16;
+        let size = fields.next(|f| natural(f, 1, 10_000))? as u32;
+        self.money.push(fields.next(money)?);
+        self.cells.push(fields.next(|f| natural(f, 0, 5))? as usize);
+        self.list.push(Row { stratum, cluster, size });
+        fields.end()
+    }
+}
+
 pub fn read(bytes: &[u8]) -> Result<Frame, Wrong> {
     if bytes.len() > 32_768 {
         return Err((33, 0, 0));
     }
-    let mut frame =
-        Frame { n: 0, m: 0, seed: 0, takes: Vec::new(), list: Vec::new(), money: Vec::new(), cells: Vec::new() };
+    let mut frame = Frame::default();
     let mut line = 0;
     for whole in bytes.split_inclusive(|byte| *byte == b'\n') {
         line += 1;
         let text = whole.strip_suffix(b"\n").ok_or((29, line, 1))?;
-        let mut fields = Fields::new(text, line);
+        let fields = Fields::new(text, line);
         match line {
-            1 => {
-                frame.n = fields.next(|f| natural(f, 1, 1024))? as u32;
-                frame.m = fields.next(|f| natural(f, 1, 1024))? as u32;
-                frame.seed = fields.next(|f| natural(f, 1, 4_294_967_295))? as u32;
-            }
-            2 => {
-                while frame.takes.len() < 64 && (fields.rest.is_some() || frame.takes.is_empty()) {
-                    frame.takes.push(fields.next(|f| natural(f, 1, 1024))? as u32);
-                }
-            }
-            _ => {
-                if frame.list.len() == 1024 {
-                    return Err((32, line, 1));
-                }
-                let stratum = fields.next(|f| natural(f, 0, 65_535))? as u16;
-                let cluster = fields.next(|f| natural(f, 0, 65_535))? as u16;
-                let size = fields.next(|f| natural(f, 1, 10_000))? as u32;
-                frame.money.push(fields.next(money)?);
-                frame.cells.push(fields.next(|f| natural(f, 0, 5))? as usize);
-                frame.list.push(Row { stratum, cluster, size });
-            }
+            1 => frame.read_header(fields)?,
+            2 => frame.read_takes(fields)?,
+            _ => frame.read_unit(fields)?,
         }
-        fields.end()?;
     }
     match line {
         0 | 1 => Err((29, line + 1, 1)),

@@ -1,6 +1,6 @@
 //! Words, throws, scale, weights and reports.
 
-use super::{Design, Fault, Row};
+use super::{Design, Fault, Row, Share};
 
 /// The xorshift32 generator, with so many words.
 pub struct Generator {
@@ -39,6 +39,35 @@ fn gcd(mut a: u64, mut b: u64) -> u64 {
     a
 }
 
+fn lowest_terms((numerator, denominator): Share) -> Share {
+    let both = gcd(numerator, denominator);
+    (numerator / both, denominator / both)
+}
+
+// The least common multiple of the numerators.
+fn scale_of(lowest: &[Share]) -> Result<u64, Fault> {
+    let mut scale = 1;
+    for (p, _) in lowest {
+        scale *= p / gcd(scale, *p);
+        if scale > 1_000_000 {
+            return Err(Fault::of(22));
+        }
+    }
+    Ok(scale)
+}
+
+fn weights_of(lowest: &[Share], scale: u64) -> Result<Vec<u64>, Fault> {
+    let mut weights = Vec::with_capacity(lowest.len());
+    for (k, (p, q)) in lowest.iter().enumerate() {
+        let weight = u128::from(scale) * u128::from(*q) / u128::from(*p);
+        if weight > 1_000_000_000 {
+            return Err(Fault::at(23, k));
+        }
+        weights.push(weight as u64);
+    }
+    Ok(weights)
+}
+
 /// A design that was started on a list, with scale and design weights.
 pub struct Survey<D> {
     pub design: D,
@@ -49,27 +78,10 @@ pub struct Survey<D> {
 impl<D: Design> Survey<D> {
     pub fn start(mut design: D, list: &[Row], n: u32) -> Result<Survey<D>, Fault> {
         design.begin(list, n)?;
-        let mut lowest = Vec::with_capacity(list.len());
-        for k in 0..list.len() {
-            let (numerator, denominator) = design.share(k)?;
-            let both = gcd(numerator, denominator);
-            lowest.push((numerator / both, denominator / both));
-        }
-        let mut scale = 1;
-        for (p, _) in &lowest {
-            scale *= p / gcd(scale, *p);
-            if scale > 1_000_000 {
-                return Err(Fault::of(22));
-            }
-        }
-        let mut weights = Vec::with_capacity(list.len());
-        for (k, (p, q)) in lowest.iter().enumerate() {
-            let weight = u128::from(scale) * u128::from(*q) / u128::from(*p);
-            if weight > 1_000_000_000 {
-                return Err(Fault::at(23, k));
-            }
-            weights.push(weight as u64);
-        }
+        let shares = (0..list.len()).map(|k| design.share(k)).collect::<Result<Vec<_>, _>>()?;
+        let lowest: Vec<Share> = shares.into_iter().map(lowest_terms).collect();
+        let scale = scale_of(&lowest)?;
+        let weights = weights_of(&lowest, scale)?;
         Ok(Survey { design, scale, weights })
     }
 
