@@ -6,11 +6,9 @@ use Rattle.std.proofs.lemmas.List.{take_all}
 use Rattle.frame_file.specs.Faults.{wrong}
 use Rattle.frame_file.specs.Pieces.{lines_of}
 use Rattle.frame_file.specs.Refusals.{file_refusal, lines_refusal}
+use Rattle.frame_laws.proofs.LineSteps.{too_long}
 use Rattle.response.specs.Responses.{Responds, RespondsTo}
 use Rattle.draw.specs.Serving.{Serves}
-
-too_long : (bytes : List ℕ) → 32768 < length bytes → file_refusal bytes ≡ Some (wrong 33 0 0)
-too_long bytes l = ap (λ b. cond b (lines_refusal 1 (lines_of bytes)) (Some (wrong 33 0 0))) (lt-leb (length bytes) 32768 l)
 
 read_enough : (bytes out : List ℕ) → Responds (take 32769 bytes) out → Responds bytes out
 read_enough bytes out h = elim (cases_lt 32769 (length bytes)) [

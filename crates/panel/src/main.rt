@@ -40,8 +40,8 @@ fn print_frame<D: Design, S: Source>(rt: &impl Print, survey: &Survey<D, S>) -> 
     Ok(())
 }
 
-// Draws until the survey refuses, and answers how many throws that took and the refusal. The loop counts its turns, since nothing else
-// shows that it ends.
+// Draws until the survey refuses, and answers how many throws that took and the refusal. The loop counts its turns, which shows
+// that it ends.
 fn draw_all<D: Design, S: Source>(survey: &mut Survey<D, S>) -> (u32, Fault) {
     for throws in 0..WORDS {
         if let Err(fault) = survey.draw() {

@@ -42,8 +42,8 @@ fn printed(heap: Global, outcome: Result<String, Failure>) -> Result<String, All
     }
 }
 
-/// What is printed for a frame.
-pub fn respond_to(heap: Global, frame: &Frame) -> Result<String, AllocError>
+// What is printed for a frame.
+fn respond_to(heap: Global, frame: &Frame) -> Result<String, AllocError>
     requires { Fits frame.now }
     ensures { IfOk result (λ text. PrintsFor frame.now (string_bytes text)) }
 {
@@ -61,7 +61,7 @@ pub fn respond(heap: Global, input: &[u8]) -> Result<String, AllocError>
     }
 }
 
-/// A file has one response.
+/// A file has no two responses.
 pub fn responses_stand()
     ensures { OneResponse }
 {}
