@@ -9,6 +9,7 @@ use Rattle.frame_file.specs.declared.fault.Cause.{Cause}
 use Rattle.frame_file.specs.declared.fault.Cause.TheVariants.{Field, Survey}
 use Rattle.frame_file.specs.declared.fault.FileFault.{FileFault}
 
+-- the published number of what is wrong in the file itself; and of any cause of a refusal
 abbrev pub number_of_field : FieldReason → ℕ
 number_of_field Shape = 29
 number_of_field NotANumber = 30
@@ -20,6 +21,7 @@ abbrev pub number_of_cause : Cause → ℕ
 number_of_cause (Field reason) = number_of_field reason
 number_of_cause (Survey fault) = number_of fault.reason
 
+-- how many layers have passed it upward
 abbrev pub depth_of : Cause → ℕ
 depth_of (Field reason) = 0
 depth_of (Survey fault) = fault.depth
@@ -31,6 +33,7 @@ pub record FileRefusal : Type 0 where
   pub column : ℕ
   pub depth : ℕ
 
+-- a fault of a file as it is published
 abbrev pub published : FileFault → FileRefusal
 published e = record { number = number_of_cause e.cause; line = e.line; column = e.column; depth = depth_of e.cause }
 
@@ -39,6 +42,7 @@ published e = record { number = number_of_cause e.cause; line = e.line; column =
 abbrev pub wrong : ℕ → ℕ → ℕ → FileRefusal
 wrong number i c = record { number = number; line = i; column = c; depth = 0 }
 
+-- a field's fault as it is published
 abbrev pub field_published : FieldFault → FileRefusal
 field_published e = wrong (number_of_field e.reason) e.line e.column
 

@@ -74,5 +74,6 @@ takes_form = record { kind_at = λ c. cond (nat_le c 64) (Some (number 1 1024)) 
 abbrev pub unit_form : Form
 unit_form = columns (number 0 65535 ∷ number 0 65535 ∷ number 1 10000 ∷ amount 1000000 ∷ number 0 5 ∷ [])
 
+-- the form of line i
 abbrev pub form_of : ℕ → Form
 form_of i = cond (i == 1) header_form (cond (i == 2) takes_form unit_form)

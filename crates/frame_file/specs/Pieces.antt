@@ -31,6 +31,7 @@ abbrev pub last_line : List ℕ → List Line
 last_line [] = []
 last_line (b ∷ bs) = line_cut_off (b ∷ bs) ∷ []
 
+-- the pieces between end bytes as lines: all but the last are whole
 abbrev pub lined : List (List ℕ) → List Line
 lined [] = []
 lined (p ∷ []) = last_line p

@@ -21,6 +21,7 @@ abbrev pub line : List (List ℕ) → List ℕ
 line fs = commas fs ++ 10 ∷ []
 
 -- ---- what stands in each line
+-- line 1; line 2; and the line of a unit
 abbrev pub header_fields : Header → List (List ℕ)
 header_fields h = decimal h.n ∷ decimal h.m ∷ decimal h.seed ∷ []
 
@@ -30,6 +31,7 @@ takes_fields takes = map decimal takes
 abbrev pub unit_fields : FrameUnit → List (List ℕ)
 unit_fields u = decimal u.row.stratum ∷ decimal u.row.cluster ∷ decimal u.row.size ∷ signed_decimal u.money ∷ decimal u.cell.at ∷ []
 
+-- the lines of all units
 abbrev pub units_written : List FrameUnit → List ℕ
 units_written units = concat (map (λ u. line (unit_fields u)) units)
 
@@ -38,9 +40,11 @@ abbrev pub written : Frame → List ℕ
 written f = line (header_fields f.header) ++ line (takes_fields f.takes) ++ units_written f.units
 
 -- ---- ranges
+-- from low to high, both included
 abbrev pub Between : ℕ → ℕ → ℕ → Type 0
 Between low high n = (low ≤ n) × (n ≤ high)
 
+-- the numbers of line 1; the takes and their count; the numbers of a unit; and all units and their count
 pub record HeaderFits (h : Header) : Type 0 where
   pub n : Between 1 1024 h.n
   pub m : Between 1 1024 h.m

@@ -21,6 +21,7 @@ use Rattle.sample_file.specs.Text.{fault_line, sample_text}
 use Rattle.response.specs.Drawing.{DrawnOut}
 
 -- ---- what a frame gives a survey
+-- the rows of its units
 abbrev pub list_of : Frame → List Row
 list_of f = map (λ u. u.row) f.units
 
@@ -74,6 +75,7 @@ PrintsWith P words f out =
     let p = P (list_of f) f.header.n in
     PrintsStarted (start_refusal p (list_of f)) P f (start_after p (list_of f) f.header.n words) out
 
+-- what is printed for a frame: by the plans that it asks for, and the words of its seed
 abbrev pub PrintsFor : Frame → List ℕ → Type 0
 PrintsFor f out = PrintsWith (plans_of f) (words_of f) f out
 
@@ -85,6 +87,7 @@ pub record PrintsWritten (bytes out : List ℕ) : Type 0 where
   pub fits : Fits frame
   pub prints : PrintsFor frame out
 
+-- by the refusal of the file, if it has one: that refusal's line, or what its frame gives
 abbrev pub RespondsTo : Option FileRefusal → List ℕ → List ℕ → Type 0
 RespondsTo (Some x) bytes out = out ≡ fault_line x
 RespondsTo None bytes out = PrintsWritten bytes out
