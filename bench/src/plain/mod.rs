@@ -1,4 +1,4 @@
-//! The rules once more, in plain Rust, written from docs/ alone: it shares no code with the proved library.
+//! The rules once more, in plain Rust, which shares no code with the proved library.
 
 pub mod designs;
 pub mod layers;
