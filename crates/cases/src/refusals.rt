@@ -34,7 +34,7 @@ mod tests {
         );
         assert_eq!(rt;
             begun(&mut s, &[Row::sized(10_240_000), Row::sized(1)], 2),
-            refusal(Reason::TotalTooLarge, 1)
+            refusal(Reason::SizesTooLarge, 1)
         );
         assert_eq!(rt;
             begun(&mut s, &[Row::sized(1), Row::sized(5)], 2),
@@ -49,11 +49,11 @@ mod tests {
         assert_eq!(rt; begun(&mut s, &[Row::sized(10_240_000)], 1), (Ok(()), true));
         assert_eq!(rt;
             begun(&mut s, &[Row::sized(10_240_001)], 1),
-            refusal(Reason::TotalTooLarge, 0)
+            refusal(Reason::SizesTooLarge, 0)
         );
         assert_eq!(rt;
             begun(&mut s, &[Row::sized(u32::MAX); 2], u32::MAX),
-            refusal(Reason::TotalTooLarge, 0)
+            refusal(Reason::SizesTooLarge, 0)
         );
         assert_eq!(rt; begun(&mut s, &[Row::sized(1); 1024], 1024), (Ok(()), true));
         assert_eq!(rt;
@@ -90,7 +90,7 @@ mod tests {
     fn numbers_and_text(rt: HostRuntime) -> Result<(), Fail> {
         assert_eq!(rt;
             [
-                Reason::TotalTooLarge.number(),
+                Reason::SizesTooLarge.number(),
                 Reason::ShareAboveOne.number(),
                 Reason::Dry.number(),
             ],

@@ -2,7 +2,7 @@
 use Rattle.std.specs.Prelude.{◌≡◌, ℕ, ◌+◌, min, Bool, true, false, List, [], ◌∷◌, ◌++◌, Some, None, Ok, Err, codes, decimal, Option, Result}
 use Rattle.design.specs.declared.fault.Fault.{Fault}
 use Rattle.design.specs.declared.fault.Reason.{Reason}
-use Rattle.design.specs.declared.fault.Reason.TheVariants.{EmptyList, TooManyRows, NoSample, SizeZero, TotalTooLarge, ShareAboveOne, TakesOutOfRange, TakeZero, WithinOutOfRange, NothingSet, OutOfOrder, StrataNotTakes, TakesNotSample, SampleNotMultiple, TooManyClusters, DenominatorTooLarge, NoWays, NoSuchThrow, NoSuchUnit, WaysOutOfRange, Dry, ScaleTooLarge, WeightTooLarge, NoFinishedRun, ReadingsNotAsUnits, UnlawfulReading, WeightAboveLimit, TotalFull}
+use Rattle.design.specs.declared.fault.Reason.TheVariants.{EmptyList, TooManyRows, NoSample, SizeZero, SizesTooLarge, ShareAboveOne, TakesOutOfRange, TakeZero, WithinOutOfRange, NothingSet, OutOfOrder, StrataNotTakes, TakesNotSample, SampleNotMultiple, TooManyClusters, DenominatorTooLarge, NoWays, NoSuchThrow, NoSuchUnit, WaysOutOfRange, Dry, ScaleTooLarge, DesignWeightTooLarge, NoFinishedRun, ReadingsNotAsUnits, UnlawfulReading, AddedWeightTooLarge, TotalFull}
 
 -- the published number of a reason
 abbrev pub number_of : Reason → ℕ
@@ -10,7 +10,7 @@ number_of EmptyList = 1
 number_of TooManyRows = 2
 number_of NoSample = 3
 number_of SizeZero = 4
-number_of TotalTooLarge = 5
+number_of SizesTooLarge = 5
 number_of ShareAboveOne = 6
 number_of TakesOutOfRange = 7
 number_of TakeZero = 8
@@ -28,11 +28,11 @@ number_of NoSuchUnit = 19
 number_of WaysOutOfRange = 20
 number_of Dry = 21
 number_of ScaleTooLarge = 22
-number_of WeightTooLarge = 23
+number_of DesignWeightTooLarge = 23
 number_of NoFinishedRun = 24
 number_of ReadingsNotAsUnits = 25
 number_of UnlawfulReading = 26
-number_of WeightAboveLimit = 27
+number_of AddedWeightTooLarge = 27
 number_of TotalFull = 28
 
 -- a refusal as it is published: its number, the row concerned, and how many layers have passed it upward

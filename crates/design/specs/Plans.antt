@@ -1,7 +1,7 @@
 -- What a plan fixes: the tree, and each unit's prescribed share.
 use Rattle.std.specs.Prelude.{ℕ, false, List}
-use Rattle.outcomes.specs.Trees.{Tree, finished, Sample}
-use Rattle.design.specs.Design.{Plan, refuses, accepts}
+use Rattle.outcomes.specs.Trees.{Tree, finished, branching, Sample}
+use Rattle.design.specs.Design.{Plan, refuses, accepts, SoundPlan}
 use Rattle.design.specs.declared.fraction.Fraction.{Fraction}
 use Rattle.design.specs.declared.row.Row.{Row}
 
@@ -9,8 +9,17 @@ use Rattle.design.specs.declared.row.Row.{Row}
 abbrev pub Plans : Type 0
 Plans = List Row → ℕ → Plan
 
+-- every plan keeps the limits, and prescribes exact shares
+abbrev pub SoundPlans : Plans → Type 0
+SoundPlans B = (list : List Row) (n : ℕ) → SoundPlan list (B list n)
+
+-- the sample without units; and the sample to which a finished tree has come
 abbrev pub nothing : Sample
 nothing k = false
+
+abbrev pub outcome : Tree Sample → Sample
+outcome (finished u) = u
+outcome (branching m sub) = nothing
 
 -- the tree, the numerators and the denominators of a plan that accepts
 abbrev pub tree_of : Plan → Tree Sample

@@ -3,14 +3,8 @@ ghost use Rattle.design.specs.Faults.{Answers, number_of, refused_at};
 ghost use Rattle.design.specs.Lists.{total, count_refusal, size_refusal, total_refusal, list_refusal};
 
 use crate::fault::{Fault, Reason};
+use crate::limits::{LARGEST_TOTAL, MOST_ROWS};
 use crate::row::Row;
-
-/// The most rows that a list may have. What relies on it asks for it by a clause on the slice: a type around the slice would name a
-/// lifetime, and every clause would have to speak of it as `list.entry.rows.now`.
-pub const MOST_ROWS: usize = 1024;
-
-/// The largest total of the sizes, and so the most ways that a throw may have.
-pub const LARGEST_TOTAL: u32 = 10_240_000;
 
 /// Refuses the row that was found at fault, if one was.
 pub fn refuse_at(row: Option<usize>, reason: Reason) -> Result<(), Fault>
@@ -52,7 +46,7 @@ fn check_total(list: &[Row]) -> Result<u32, Fault>
     let mut sum: u32 = 0;
     for (i, row) in list.iter().enumerate() {
         if row.size > LARGEST_TOTAL - sum {
-            return Err(Fault::at(Reason::TotalTooLarge, i as u32));
+            return Err(Fault::at(Reason::SizesTooLarge, i as u32));
         }
         sum += row.size;
     }

@@ -1,7 +1,8 @@
-ghost use Rattle.std.specs.Prelude.{◌≡◌, ℕ, List};
-ghost use Rattle.design.specs.Design.{Plan, Standing, Began, Stepped, Shared, Taken, SoundPlan, SoundStanding, ways_of};
+ghost use Rattle.std.specs.Prelude.{◌≡◌};
+ghost use Rattle.design.specs.Design.{Standing, Began, Stepped, Shared, Taken, SoundStanding, ways_of};
 ghost use Rattle.design.specs.Laws.{PrescribedFirst, OneNumerator};
 ghost use Rattle.design.specs.declared.row.Row.{Row};
+ghost use Rattle.design.specs.Plans.{Plans, SoundPlans};
 
 use crate::fault::Fault;
 use crate::fraction::Fraction;
@@ -10,7 +11,7 @@ use crate::row::Row;
 /// A sampling design. Whatever shows these promises is one.
 pub trait Design {
     /// What begin does with each list and sample size, fixed by them and the design's settings alone.
-    ghost plan: { Self → List Row → ℕ → Plan };
+    ghost plan: { Self → Plans };
 
     /// The run that stands: its present tree, with a denominator for each unit.
     ghost tree: { Self → Standing };
@@ -21,17 +22,17 @@ pub trait Design {
     /// Accepts a list and a sample size, or refuses them; refused, no run stands.
     fn begin(&mut self, list: &[Row], n: u32) -> Result<(), Fault>
         ensures begun { Began (plan self.old list.now n) result (tree self.new) }
-        ensures whole { intact self.new }
+        ensures intact { intact self.new }
         ensures settings { plan self.new ≡ plan self.old };
 
-    /// The ways of the next throw; by the rule of the call 0, and not None, where the run has come to its outcome or no run stands.
+    /// The ways of the next throw, and 0 where the run has come to its outcome or no run stands.
     fn ways(&self) -> u32
         ensures { intact self.now → result ≡ ways_of (tree self.now) };
 
     /// Goes on to the subtree of the throw d.
     fn step(&mut self, d: u32) -> Result<(), Fault>
         ensures stepped { intact self.old → Stepped (tree self.old) d result (tree self.new) }
-        ensures whole { intact self.old → intact self.new }
+        ensures intact { intact self.old → intact self.new }
         ensures settings { plan self.new ≡ plan self.old };
 
     /// The inclusion share of the unit k in the present tree, with the unit's denominator.
@@ -47,7 +48,7 @@ pub trait Design {
     }
 
     /// Every plan keeps the limits, and prescribes exact shares; a refusal names row 0 or a row of the list.
-    ghost sound: { (s : Self) (list : List Row) (n : ℕ) → SoundPlan list (plan s list n) };
+    ghost sound: { (s : Self) → SoundPlans (plan s) };
 
     /// A run that stands has an exact numerator for each unit in its present tree.
     ghost exact: { (s : Self) → intact s → SoundStanding (tree s) };

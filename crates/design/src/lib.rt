@@ -5,4 +5,5 @@ pub mod check;
 pub mod design;
 pub mod fault;
 pub mod fraction;
+pub mod limits;
 pub mod row;

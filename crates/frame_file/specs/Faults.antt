@@ -34,8 +34,8 @@ pub record FileRefusal : Type 0 where
   pub depth : ℕ
 
 -- a fault of a file as it is published
-abbrev pub published : FileFault → FileRefusal
-published e = record { number = number_of_cause e.cause; line = e.line; column = e.column; depth = depth_of e.cause }
+abbrev pub numbered_file : FileFault → FileRefusal
+numbered_file e = record { number = number_of_cause e.cause; line = e.line; column = e.column; depth = depth_of e.cause }
 
 -- ---- faults of the file itself
 -- wrong at a line and a column
@@ -43,8 +43,8 @@ abbrev pub wrong : ℕ → ℕ → ℕ → FileRefusal
 wrong number i c = record { number = number; line = i; column = c; depth = 0 }
 
 -- a field's fault as it is published
-abbrev pub field_published : FieldFault → FileRefusal
-field_published e = wrong (number_of_field e.reason) e.line e.column
+abbrev pub numbered_field : FieldFault → FileRefusal
+numbered_field e = wrong (number_of_field e.reason) e.line e.column
 
 -- such a fault as one of the file: nothing is lost
 abbrev pub of_field : FieldFault → FileFault

@@ -18,9 +18,9 @@ number_in f = cond (is_numeral f) (Some (read_on 0 f)) None
 
 -- ---- kinds of fields
 -- a number from low to high; or an amount of money, up to so much either way
-pub data Kind : Type 0 where
-  number : ℕ → ℕ → Kind
-  amount : ℕ → Kind
+pub data FieldKind : Type 0 where
+  number : ℕ → ℕ → FieldKind
+  amount : ℕ → FieldKind
 
 -- no number is 30, and a number outside low to high is 31
 abbrev pub outside : ℕ → ℕ → Option ℕ → Option ℕ
@@ -37,18 +37,18 @@ abbrev pub has_minus : List ℕ → Bool
 has_minus f = slice_index_or f 0 0 == 45
 
 -- the number of a field's fault, if it has one
-abbrev pub wrong_in : Kind → List ℕ → Option ℕ
+abbrev pub wrong_in : FieldKind → List ℕ → Option ℕ
 wrong_in (number low high) f = outside low high (number_in f)
 wrong_in (amount high) f = cond (has_minus f) (outside_below high (number_in (drop 1 f))) (outside 0 high (number_in f))
 
 -- ---- columns
 -- what each column of a line holds, columns counted from 1, and how many fields the line has at least
 pub record Form : Type 0 where
-  pub kind_at : ℕ → Option Kind
+  pub kind_at : ℕ → Option FieldKind
   pub least : ℕ
 
 -- the number of the fault of a field in a column: a surplus field is 29, whatever it holds
-abbrev pub wrong_at : Option Kind → List ℕ → Option ℕ
+abbrev pub wrong_at : Option FieldKind → List ℕ → Option ℕ
 wrong_at None f = Some 29
 wrong_at (Some kind) f = wrong_in kind f
 
@@ -59,7 +59,7 @@ item (x ∷ xs) zero = Some x
 item (x ∷ xs) (suc k) = item xs k
 
 -- just these columns
-abbrev pub columns : List Kind → Form
+abbrev pub columns : List FieldKind → Form
 columns kinds = record { kind_at = λ c. item kinds (c - 1); least = length kinds }
 
 -- line 1: the sample size n and the number m for each cluster, and the seed

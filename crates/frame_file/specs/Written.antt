@@ -1,5 +1,5 @@
 -- The written form of a frame, and the ranges of its numbers.
-use Rattle.std.specs.Prelude.{ℕ, ◌≤◌, pos, negsuc, ◌≤ℤ◌, List, [], ◌∷◌, ◌++◌, map, length, decimal, All}
+use Rattle.std.specs.Prelude.{ℕ, ℤ, ◌≤◌, pos, negsuc, ◌≤ℤ◌, List, [], ◌∷◌, ◌++◌, map, length, decimal, All}
 use Rattle.std.specs.Fmt.{signed_decimal}
 use Rattle.std.specs.List.{concat}
 use Rattle.frame_file.specs.declared.frame.Header.{Header}
@@ -44,7 +44,7 @@ written f = line (header_fields f.header) ++ line (takes_fields f.takes) ++ unit
 abbrev pub Between : ℕ → ℕ → ℕ → Type 0
 Between low high n = (low ≤ n) × (n ≤ high)
 
--- the numbers of line 1; the takes and their count; the numbers of a unit; and all units and their count
+-- the numbers of line 1; the takes and their count; an amount of money; the numbers of a unit; and all units and their count
 pub record HeaderFits (h : Header) : Type 0 where
   pub n : Between 1 1024 h.n
   pub m : Between 1 1024 h.m
@@ -54,12 +54,15 @@ pub record TakesFit (takes : List ℕ) : Type 0 where
   pub each : All (Between 1 1024) takes
   pub count : Between 1 64 (length takes)
 
+pub record MoneyFits (money : ℤ) : Type 0 where
+  pub low : negsuc 999999 ≤ℤ money
+  pub high : money ≤ℤ pos 1000000
+
 pub record UnitFits (u : FrameUnit) : Type 0 where
   pub stratum : u.row.stratum ≤ 65535
   pub cluster : u.row.cluster ≤ 65535
   pub size : Between 1 10000 u.row.size
-  pub money_low : negsuc 999999 ≤ℤ u.money
-  pub money_high : u.money ≤ℤ pos 1000000
+  pub money : MoneyFits u.money
   pub cell : u.cell.at ≤ 5
 
 pub record UnitsFit (units : List FrameUnit) : Type 0 where

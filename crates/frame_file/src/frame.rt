@@ -2,13 +2,19 @@ ghost use Rattle.std.specs.Prelude.{◌≡◌, [], IfOk};
 ghost use Rattle.frame_file.specs.Written.{no_header};
 
 use bounded::BoundedVec;
-use design::check::MOST_ROWS;
+use design::limits::{MOST_ROWS, MOST_TAKES};
 use design::row::Row;
 use std::alloc::{AllocError, Global};
 use totals::table::Cell;
 
-/// The most takes that a frame file may have.
-pub const MOST_TAKES: usize = 64;
+/// The largest sample size, number of units for a cluster, and take.
+pub const LARGEST_SAMPLE: u32 = 1024;
+
+/// The largest size of a unit.
+pub const LARGEST_SIZE: u32 = 10_000;
+
+/// The largest amount of money, either way.
+pub const LARGEST_AMOUNT: u32 = 1_000_000;
 
 /// The first line of a frame file: the sample size, how many units are taken in each cluster, and the seed of the generator.
 #[derive(Clone, Copy, PartialEq, Eq, Debug)]

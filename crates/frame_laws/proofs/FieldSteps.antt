@@ -74,7 +74,7 @@ unit_fine i u fits = all_fine unit_form i 1 (unit_fields u) (
     (
       number_fine 1 10000 u.row.size fits.size (omega arith),
       (
-        amount_in_range u.money fits.money_low fits.money_high,
+        amount_in_range u.money fits.money.low fits.money.high,
         (number_fine 0 5 u.cell.at (omega arith, fits.cell) (omega arith), omega arith),
       ),
     ),

@@ -47,7 +47,7 @@ unit_short u w =
       number_short 5 u.row.stratum (omega arith) (omega (arith, w.stratum)),
       number_short 5 u.row.cluster (omega arith) (omega (arith, w.cluster)),
       number_short 5 u.row.size (omega arith) (omega (arith, w.size)),
-      amount_short u.money w.money_low w.money_high,
+      amount_short u.money w.money.low w.money.high,
       number_short 1 u.cell.at (omega arith) (omega (arith, w.cell)),
     )
 

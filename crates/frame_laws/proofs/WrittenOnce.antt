@@ -45,7 +45,7 @@ same_unit u v x y e =
     let cluster : u.row.cluster ≡ v.row.cluster = decimal_injective _ _ (omega (arith, x.cluster)) (omega (arith, y.cluster)) (cc) in
     let size : u.row.size ≡ v.row.size = decimal_injective _ _ (omega (arith, x.size)) (omega (arith, y.size)) (cc) in
     let money : u.money ≡ v.money =
-    signed_decimal_injective _ _ (omega (arith, amount_small u.money x.money_low x.money_high)) (omega (arith, amount_small v.money y.money_low y.money_high)) (cc) in
+    signed_decimal_injective _ _ (omega (arith, amount_small u.money x.money.low x.money.high)) (omega (arith, amount_small v.money y.money.low y.money.high)) (cc) in
     let at : u.cell.at ≡ v.cell.at = decimal_injective _ _ (omega (arith, x.cell)) (omega (arith, y.cell)) (cc) in
     λ i. record { row = record { stratum = stratum i; cluster = cluster i; size = size i }; money = money i; cell = record { at = at i } }
 

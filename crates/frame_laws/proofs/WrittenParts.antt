@@ -86,7 +86,7 @@ unit_parts u w = parts _ _ (
     (
       decimal_in_field u.row.size (omega (arith, w.size)),
       (
-        amount_in_field u.money w.money_low w.money_high,
+        amount_in_field u.money w.money.low w.money.high,
         (decimal_in_field u.cell.at (omega (arith, w.cell)), tt),
       ),
     ),

@@ -6,13 +6,12 @@ use Rattle.design.specs.Design.{Plan, refuses, accepts, Run, plan_of, Sound, Sou
 use Rattle.design.specs.declared.row.Row.{Row}
 use Rattle.design.proofs.Firsts.{first_below}
 use Rattle.parts.specs.Parts.{Part, bounds}
-use Rattle.design.specs.Plans.{Plans}
+use Rattle.design.specs.Plans.{Plans, SoundPlans}
 use Rattle.parts.specs.Series.{plan_for, refused_or, part_refusal}
-use Rattle.parts.specs.Bounds.{Apart}
+use Rattle.parts.proofs.Chains.{Apart}
 use Rattle.parts.proofs.Cuts.{rising_bounds}
 use Rattle.parts.proofs.Places.{rising_at, rising_zero}
 use Rattle.parts.proofs.Lawfuls.{apart_le}
-use Rattle.layers.specs.Laws.{SoundPlans}
 
 -- row 0, or one below n
 abbrev pub Listed : ℕ → ℕ → Type 0

@@ -4,19 +4,18 @@ use Rattle.outcomes.specs.Trees.{Tree, finished, branching, Sample, weight, incl
 use Rattle.outcomes.proofs.Trees.{lawful_ways}
 use Rattle.design.specs.Design.{Run, Standing, no_run, in_run, Shared, Fair, SoundRun, SoundStanding, ways_of, below}
 use Rattle.parts.specs.Parts.{Part, place_of}
-use Rattle.design.specs.Plans.{Plans, fraction, nothing}
-use Rattle.parts.specs.Series.{series, resumed, chosen, numerators, denominators}
-use Rattle.parts.specs.Bounds.{Inside}
+use Rattle.design.specs.Plans.{Plans, fraction, nothing, outcome, SoundPlans}
+use Rattle.parts.specs.Series.{series, chosen, numerators, denominators}
+use Rattle.parts.proofs.Chains.{Inside}
 use Rattle.parts.specs.Seats.{Seated}
-use Rattle.parts.specs.Copying.{Over, outcome_of, outcome_in}
-use Rattle.parts.specs.Running.{Tables, all_parts, part_at, is_chosen, so_far, ahead, run_over, run_from, standing_by, standing_of, has_present, Loaded}
+use Rattle.parts.specs.Copying.{Over, outcome_of}
+use Rattle.parts.specs.Running.{Tables, all_parts, part_at, is_chosen, so_far, ahead, run_over, run_from, standing_by, standing_of, has_present, Loaded, resumed}
 use Rattle.parts.proofs.Cuts.{chain_inside}
 use Rattle.parts.proofs.Places.{chain_place}
 use Rattle.parts.proofs.Seats.{chain, apart, seat_place}
 use Rattle.parts.proofs.Series.{fair_stages}
 use Rattle.parts.proofs.Lawfuls.{prescribed_parts}
 use Rattle.parts.proofs.Copying.{finished_is}
-use Rattle.layers.specs.Laws.{SoundPlans}
 use Rattle.layers.specs.TwoStage.{stages}
 use Rattle.layers.specs.Stages.{stages_over, in_first, in_second, Fitting, Fits}
 use Rattle.layers.proofs.TwoStagePlans.{lawful_stages}
@@ -79,8 +78,8 @@ drawn B v w (in_run r) f e p n c =
     })) p n
     ∙ ap (λ (t : Tree Sample). in_run (stages_over B v r t)) (same ∙ ap (stages B (all_parts v)) (sym (finished_is r.tree (lawful_ways (length (all_parts v)) r.tree f.lawful) e)))
   where
-    same : series B (chosen (is_chosen w) 0 (all_parts v)) nothing ≡ stages B (all_parts v) (finished (outcome_in r.tree))
-    same = ap (λ (ps : List Part). series B ps nothing) (chosen_same (is_chosen w) (outcome_in r.tree) 0 (all_parts v) (λ i l. c i (omega arith)))
+    same : series B (chosen (is_chosen w) 0 (all_parts v)) nothing ≡ stages B (all_parts v) (finished (outcome r.tree))
+    same = ap (λ (ps : List Part). series B ps nothing) (chosen_same (is_chosen w) (outcome r.tree) 0 (all_parts v) (λ i l. c i (omega arith)))
 
 -- ---- share
 scaled : (c x y w i : ℕ) → x * w ≡ y * i → c * x * w ≡ c * y * i

@@ -3,7 +3,7 @@ use Rattle.std.proofs.Common.{◌≡◌, ℕ, Bool, true, false, [], ◌∷◌, 
 use Rattle.design.specs.Faults.{Refusal, numbered, Answers, or_else, first_of}
 use Rattle.design.specs.Design.{Run, Standing, no_run, in_run, Began, plan_of, SoundStanding}
 use Rattle.design.specs.declared.fault.Fault.{Fault}
-use Rattle.parts.specs.Running.{Moved}
+use Rattle.parts.specs.Running.{Undisturbed}
 use Rattle.layers.specs.Standings.{stands_if, HoldsIf}
 
 pub exact_if : (b : Bool) (X : Type 0) (st : Standing) → (X → SoundStanding st) → HoldsIf b X → SoundStanding (stands_if b st)
@@ -46,6 +46,6 @@ module _ (U : Type 0) (o : Option Refusal) (num : ℕ → ℕ) (run : Run) where
       (subst (λ (x : Option Refusal). Began {U = U} (plan_of x num run) (Err e) no_run) (sym h) (refl, refl))
 
   -- accepted, and what follows leaves the run as it was
-  pub begun_moved : (r : Result U Fault) (S : Type 0) (now mid : Standing) → Moved r S now mid → o ≡ None → mid ≡ in_run run → Began {U = U} (plan_of o num run) r now × S
+  pub begun_moved : (r : Result U Fault) (S : Type 0) (now mid : Standing) → Undisturbed r S now mid → o ≡ None → mid ≡ in_run run → Began {U = U} (plan_of o num run) r now × S
   begun_moved (Ok u) S now mid m n e = (subst (λ (x : Option Refusal). Began {U = U} (plan_of x num run) (Ok u) now) (sym n) (m.1 ∙ e), m.0)
   begun_moved (Err f) S now mid m n e = absurd m

@@ -9,12 +9,12 @@ use Rattle.design.proofs.Firsts.{neither, not_refused}
 use Rattle.design.proofs.Checks.{counted}
 use Rattle.parts.specs.Parts.{same_stratum}
 use Rattle.parts.specs.Orders.{lower_stratum, falls_at, fall_refusal}
-use Rattle.design.specs.Plans.{Plans, nothing}
+use Rattle.design.specs.Plans.{Plans, nothing, SoundPlans}
 use Rattle.parts.specs.Series.{numerators, part_refusal}
 use Rattle.parts.proofs.Series.{series_fair}
 use Rattle.parts.proofs.Lawfuls.{chain_parts, apart_parts, all_accepted, lawful_apart, prescribed_parts}
 use Rattle.layers.specs.Stratified.{take_of, strata, total_take, strata_refusal, series_run}
-use Rattle.layers.specs.Laws.{SoundPlans, StratifiedSound}
+use Rattle.layers.specs.Laws.{StratifiedSound}
 use Rattle.layers.proofs.Rows.{Named, named_either, named_whole, named_first, named_count, named_parts, sound_plan}
 
 -- what the checks of stratification leave

@@ -12,14 +12,15 @@ use Rattle.design.proofs.Firsts.{first_none, neither, not_refused, no_row}
 use Rattle.design.proofs.Checks.{checked}
 use Rattle.parts.specs.Parts.{Part, same_cluster, bounds, place_of}
 use Rattle.parts.specs.Orders.{lower_cluster, falls_at, fall_refusal}
-use Rattle.design.specs.Plans.{Plans, nothing, tree_of, numerator_of, denominator_of}
+use Rattle.design.specs.Plans.{Plans, nothing, tree_of, numerator_of, denominator_of, SoundPlans}
 use Rattle.parts.specs.Series.{series, chosen, part_refusal}
-use Rattle.parts.specs.Bounds.{Apart, Accepted, AllAccepted}
+use Rattle.parts.specs.Bounds.{Accepted, AllAccepted}
+use Rattle.parts.proofs.Chains.{Apart}
 use Rattle.parts.proofs.Places.{cut-length, chain_place}
 use Rattle.parts.proofs.Series.{lawful_of, fair_of, apart_chosen, accepted_chosen, stages_fair}
 use Rattle.parts.proofs.Lawfuls.{chain_parts, apart_parts, all_accepted, lawful_bind, lawful_apart, prescribed_of, prescribed_parts}
-use Rattle.layers.specs.TwoStage.{clusters, cluster_row, first_plan, stages, stage_numerators, stage_denominators, crowd_refusal, clusters_refusal, first_refusal, too_large, product_refusal, stages_run, two_stage_plan}
-use Rattle.layers.specs.Laws.{SoundPlans, TwoStageSound}
+use Rattle.layers.specs.TwoStage.{clusters, cluster_row, first_plan, stages, stage_numerators, stage_denominators, cluster_count_refusal, clusters_refusal, first_refusal, too_large, product_refusal, stages_run, two_stage_plan}
+use Rattle.layers.specs.Laws.{TwoStageSound}
 use Rattle.layers.proofs.Rows.{Named, named_either, named_whole, named_first, named_list, named_parts, bound_listed, sound_plan}
 
 -- ---- what the checks of two-stage drawing leave
@@ -32,7 +33,7 @@ pub record Clustered (m : ℕ) (list : List Row) (n : ℕ) : Type 0 where
   pub multiple : n % m ≡ 0
   pub few_clusters : length (bounds same_cluster list) ≤ 129
 
-not_crowded : (firsts : List ℕ) → crowd_refusal firsts ≡ None → length firsts ≤ 129
+not_crowded : (firsts : List ℕ) → cluster_count_refusal firsts ≡ None → length firsts ≤ 129
 not_crowded firsts e = ltb-false 129 (length firsts) (by (ltb 129 (length firsts)) (no_row _ 15 e))
   where
     by : (b : Bool) → cond b (Some (get_or firsts 128 0)) None ≡ None → b ≡ false
@@ -45,7 +46,7 @@ clustered m list n e =
     let b = neither (list_refusal list n) _ a.1 in
     let c = neither (fall_refusal lower_cluster list) _ b.1 in
     let d = neither (refused_if (not (eqb (n % m) 0)) 14) _ c.1 in
-    let f = neither (crowd_refusal (bounds same_cluster list)) _ d.1 in
+    let f = neither (cluster_count_refusal (bounds same_cluster list)) _ d.1 in
     let g = checked list n b.0 in
     record {
       some_within = omega (arith, eqb-false m 0 (not_refused _ 10 a.0));
@@ -67,7 +68,7 @@ pub product_small : (a : Plan) (B : Plans) (ps : List Part) (units : ℕ) → pr
 product_small a B ps units e k l = ltb-false (10 ^ 15) (stage_denominators a B ps k) (first_none units (too_large (stage_denominators a B ps)) (no_row _ 16 e) k l)
 
 -- ---- the rows of refusals
-named_crowd : (list : List Row) → Named (length list) (crowd_refusal (bounds same_cluster list))
+named_crowd : (list : List Row) → Named (length list) (cluster_count_refusal (bounds same_cluster list))
 named_crowd list = by (ltb 129 (length (bounds same_cluster list))) refl
   where
     by : (b : Bool) → ltb 129 (length (bounds same_cluster list)) ≡ b → Named (length list) (refused_at (cond b (Some (get_or (bounds same_cluster list) 128 0)) None) 15)

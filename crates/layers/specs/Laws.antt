@@ -1,14 +1,8 @@
 -- The laws of the layers, as statements.
 use Rattle.std.specs.Prelude.{ℕ, List}
-use Rattle.design.specs.Design.{SoundPlan}
-use Rattle.design.specs.declared.row.Row.{Row}
-use Rattle.design.specs.Plans.{Plans}
+use Rattle.design.specs.Plans.{Plans, SoundPlans}
 use Rattle.layers.specs.Stratified.{stratified_plan}
 use Rattle.layers.specs.TwoStage.{two_stage_plan}
-
--- every plan keeps the limits, and prescribes exact shares
-abbrev pub SoundPlans : Plans → Type 0
-SoundPlans B = (list : List Row) (n : ℕ) → SoundPlan list (B list n)
 
 -- a layer's plans are sound wherever those of the designs below are
 abbrev pub StratifiedSound : Type 0

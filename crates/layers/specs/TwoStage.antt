@@ -42,8 +42,8 @@ abbrev pub within_refusal : ℕ → Option Refusal
 within_refusal m = refused_if (m == 0 || nat_lt 1024 m) 9
 
 -- the first row of the 129th cluster, if there is one; `firsts` are the first rows of the clusters, and the row past the list
-abbrev pub crowd_refusal : List ℕ → Option Refusal
-crowd_refusal firsts = refused_at (cond (nat_lt 129 (length firsts)) (Some (slice_index firsts 128)) None) 15
+abbrev pub cluster_count_refusal : List ℕ → Option Refusal
+cluster_count_refusal firsts = refused_at (cond (nat_lt 129 (length firsts)) (Some (slice_index firsts 128)) None) 15
 
 -- what begin refuses before it asks the designs below: no number set; a list or a sample size that any design with sizes refuses; the
 -- first row whose pair of stratum, then cluster, falls; n no multiple of m; too many clusters
@@ -53,7 +53,7 @@ clusters_refusal m list n =
     ∷ list_refusal list n
     ∷ fall_refusal lower_cluster list
     ∷ refused_if (not (n % m == 0)) 14
-    ∷ crowd_refusal (bounds same_cluster list) ∷ [])
+    ∷ cluster_count_refusal (bounds same_cluster list) ∷ [])
 
 -- the first design's refusal, at the first row of the cluster that it names
 abbrev pub first_refusal : List ℕ → Plan → Option Refusal

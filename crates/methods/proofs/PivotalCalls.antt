@@ -8,7 +8,7 @@ use Rattle.design.specs.Lists.{size_at, total}
 use Rattle.design.specs.declared.row.Row.{Row}
 use Rattle.methods.specs.Plain.{goals}
 use Rattle.methods.specs.Pivotal.{nobody, pivotal}
-use Rattle.methods.specs.PivotalRuns.{pivotal_tree, duel_ways, pending_after, called_after, keeper, PendingShort, add_up, Held, Whole, Due}
+use Rattle.methods.specs.PivotalRuns.{pivotal_tree, duel_ways, pending_after, called_after, keeper, PendingShort, add_up, Held, Intact, Due}
 use Rattle.methods.specs.Laws.{PivotalSound}
 use Rattle.methods.proofs.Goals.{Fine, goals_long, goal_some, goal_most, total_some}
 use Rattle.methods.proofs.Plans.{Prepared, prepared_fine, plain_sound}
@@ -23,8 +23,8 @@ short_one : (all : ℕ) (holds : List ℕ) (called : ℕ) (pend : Option ℕ) �
 short_one all holds called None = hlevel props
 short_one all holds called (Some i) = hlevel props
 
-pub whole_once : (all : ℕ) (holds : List ℕ) (called : ℕ) (pend : Option ℕ) → IsProp (Whole all holds called pend)
-whole_once all holds called pend = hlevel (props, short_one)
+pub intact_once : (all : ℕ) (holds : List ℕ) (called : ℕ) (pend : Option ℕ) → IsProp (Intact all holds called pend)
+intact_once all holds called pend = hlevel (props, short_one)
 
 -- ---- the search for the next duel
 -- from `called` and `pend` it has come to `at`, where `waiting` is pending, and the tree is the same
@@ -95,10 +95,10 @@ held_begun list n all items p = prepared_fine list n all items p (λ x xs. Held 
 pub ways_end : (all : ℕ) (holds : List ℕ) (called : ℕ) (pend : Option ℕ) → length holds ≤ called → ways (pivotal_tree all holds called pend) ≡ 0
 ways_end all holds called pend l = ap ways (tree_done all holds called pend l)
 
-duelling : (all : ℕ) (holds : List ℕ) (called i : ℕ) (pend : Option ℕ) → Whole all holds called pend → called < length holds → pend ≡ Some i → Duel all holds i called
+duelling : (all : ℕ) (holds : List ℕ) (called i : ℕ) (pend : Option ℕ) → Intact all holds called pend → called < length holds → pend ≡ Some i → Duel all holds i called
 duelling all holds called i pend w l e = duel_of all holds i called (subst (λ p. Held all holds called p) e w.0) l (w.1 l).1
 
-pub ways_at : (all : ℕ) (holds : List ℕ) (called : ℕ) (pend : Option ℕ) (i a b m : ℕ) → Whole all holds called pend → Due holds called pend i a b → m ≡ duel_ways all a b
+pub ways_at : (all : ℕ) (holds : List ℕ) (called : ℕ) (pend : Option ℕ) (i a b m : ℕ) → Intact all holds called pend → Due holds called pend i a b → m ≡ duel_ways all a b
     → m ≡ ways (pivotal_tree all holds called pend)
 ways_at all holds called pend i a b m w u e =
     e ∙ ap₂ (λ x y. duel_ways all x y) u.a_is u.b_is
@@ -121,7 +121,7 @@ fought all whole holds called i a b d x y keep first both e ex ey ek ef eb = rec
   left = eb ∙ ap (λ xs. set xs called y) ef;
 }
 
-module _ (all : ℕ) (holds : List ℕ) (called : ℕ) (pend : Option ℕ) (i a b d x y : ℕ) (keep : Option ℕ) (hs : List ℕ) (w : Whole all holds called pend)
+module _ (all : ℕ) (holds : List ℕ) (called : ℕ) (pend : Option ℕ) (i a b d x y : ℕ) (keep : Option ℕ) (hs : List ℕ) (w : Intact all holds called pend)
     (u : Due holds called pend i a b) (f : Fought all holds called i a b d x y keep hs) where
   fx : x ≡ pending_after all (get_or holds i 0) (get_or holds called 0) d
   fx = f.x_is ∙ ap₂ (λ p q. pending_after all p q d) u.a_is u.b_is

@@ -20,6 +20,10 @@ taken_of all holds called k = cond (nat_lt k called) (slice_index holds k == all
 abbrev pub Within : ℕ → List ℕ → Type 0
 Within all holds = (k : ℕ) → k < length holds → slice_index holds k ≤ all
 
+-- each of the first `called` units holds all or nothing
+abbrev pub AllOrNothing : ℕ → List ℕ → ℕ → Type 0
+AllOrNothing all holds called = (k : ℕ) → k < called → slice_index holds k < all → slice_index holds k ≡ 0
+
 -- the answer of share: what the unit holds, over all
 abbrev pub HeldShare : Bool → ℕ → List ℕ → ℕ → Result Fraction Fault → Type 0
 HeldShare running all holds k (Ok share) =

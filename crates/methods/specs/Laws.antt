@@ -1,11 +1,10 @@
 -- The laws of the plain methods, as statements.
 use Rattle.std.specs.Prelude.{◌≡◌, ℕ, ◌<◌, true, ◌↔◌, List, slice_index}
 use Rattle.outcomes.specs.Counting.{Among}
-use Rattle.design.specs.Design.{SoundPlan}
-use Rattle.design.specs.declared.row.Row.{Row}
 use Rattle.methods.specs.Pivotal.{pivotal_plan}
 use Rattle.methods.specs.Poisson.{poisson_plan}
 use Rattle.methods.specs.Systematic.{numbers_from, struck, systematic_plan}
+use Rattle.design.specs.Plans.{SoundPlans}
 
 -- systematic drawing takes a unit at the throw r exactly if one of r, r + all, r + 2 all and so on is among its numbers
 abbrev pub SystematicTakes : Type 0
@@ -13,12 +12,12 @@ SystematicTakes = (all : ℕ) (goals : List ℕ) (r k : ℕ) → 0 < all → (st
 
 -- every plan of systematic drawing is sound: shares are exact, and everything is within the limits
 abbrev pub SystematicSound : Type 0
-SystematicSound = (list : List Row) (n : ℕ) → SoundPlan list (systematic_plan list n)
+SystematicSound = SoundPlans systematic_plan
 
 -- every plan of ordered pivotal drawing is sound
 abbrev pub PivotalSound : Type 0
-PivotalSound = (list : List Row) (n : ℕ) → SoundPlan list (pivotal_plan list n)
+PivotalSound = SoundPlans pivotal_plan
 
 -- every plan of Poisson drawing is sound
 abbrev pub PoissonSound : Type 0
-PoissonSound = (list : List Row) (n : ℕ) → SoundPlan list (poisson_plan list n)
+PoissonSound = SoundPlans poisson_plan

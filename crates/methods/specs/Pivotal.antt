@@ -2,8 +2,7 @@
 use Rattle.std.specs.Prelude.{ℕ, suc, ◌+◌, ◌-◌, ◌*◌, false, cond, List, [], ◌∷◌, ◌==◌, nat_lt}
 use Rattle.outcomes.specs.Trees.{Tree, finished, branching, Sample, with}
 use Rattle.design.specs.Lists.{total}
-use Rattle.design.specs.Design.{Plan}
-use Rattle.design.specs.declared.row.Row.{Row}
+use Rattle.design.specs.Plans.{Plans}
 use Rattle.methods.specs.Plain.{goals, plain_plan}
 
 -- the pending unit, if any, and what it holds
@@ -37,5 +36,6 @@ pivotal all (b ∷ rest) k (pending i a) taken =
     (pivotal all rest (suc k) (holder k (a + b - all)) (with taken i))
     (pivotal all rest (suc k) (holder i (a + b - all)) (with taken k)))))
 
-abbrev pub pivotal_plan : List Row → ℕ → Plan
+-- what the plain design over this method does with a list and a sample size
+abbrev pub pivotal_plan : Plans
 pivotal_plan list n = plain_plan list n (pivotal (total list) (goals list n) 0 nobody (λ _. false))

@@ -4,11 +4,12 @@ use Rattle.outcomes.specs.Trees.{Tree, Sample}
 use Rattle.methods.specs.Pivotal.{Pending, nobody, pending, pivotal}
 use Rattle.methods.specs.Holdings.{taken_of, Within}
 
--- the first `called` units have been called, and `pend` of them is pending
+-- the pending unit, if any, with what it holds
 abbrev pub pending_of : List ℕ → Option ℕ → Pending
 pending_of holds None = nobody
 pending_of holds (Some i) = pending i (slice_index holds i)
 
+-- the tree that is left once the first `called` units have been called
 abbrev pub pivotal_tree : ℕ → List ℕ → ℕ → Option ℕ → Tree Sample
 pivotal_tree all holds called pend = pivotal all (drop called holds) called (pending_of holds pend) (taken_of all holds called)
 
@@ -22,28 +23,34 @@ pending_after all a b d = cond (nat_lt (a + b) all) (cond (nat_lt d a) (a + b) 0
 abbrev pub called_after : ℕ → ℕ → ℕ → ℕ → ℕ
 called_after all a b d = cond (nat_lt (a + b) all) (cond (nat_lt d a) 0 (a + b)) (cond (nat_lt d (all - b)) (a + b - all) all)
 
--- holds something, and not all
+-- a unit that holds x, which is something and not all
 abbrev pub short : ℕ → ℕ → Bool
 short all x = nat_lt 0 x && nat_lt x all
 
+-- which of the units i and j is pending, where they hold x and y: the one that holds something and not all
 abbrev pub keeper : ℕ → ℕ → ℕ → ℕ → ℕ → Option ℕ
 keeper all i j x y = cond (short all x) (Some i) (cond (short all y) (Some j) None)
 
+-- k is the pending unit
 abbrev pub is_pending : Option ℕ → ℕ → Bool
 is_pending None k = false
 is_pending (Some i) k = i == k
 
--- only the pending unit of those called holds something and not all
+-- ---- the facts of a run
+-- of the units called, only the pending one holds something and not all
 abbrev pub Settled : ℕ → List ℕ → ℕ → Option ℕ → Type 0
 Settled all holds called pend = (k : ℕ) → k < called → short all (slice_index holds k) ≡ true → is_pending pend k ≡ true
 
+-- the pending unit has been called, and holds something and not all
 abbrev pub PendingShort : ℕ → List ℕ → ℕ → Option ℕ → Type 0
 PendingShort all holds called None = Unit {0}
 PendingShort all holds called (Some i) = (i < called) × (0 < slice_index holds i) × (slice_index holds i < all)
 
+-- each unit still to be called holds something
 abbrev pub Fresh : List ℕ → ℕ → Type 0
 Fresh holds called = (k : ℕ) → called ≤ k → k < length holds → 0 < slice_index holds k
 
+-- what the pending unit holds, and 0 where nobody is pending
 abbrev pub amount : List ℕ → Option ℕ → ℕ
 amount holds None = 0
 amount holds (Some i) = slice_index holds i
@@ -53,10 +60,11 @@ abbrev pub add_up : List ℕ → ℕ
 add_up [] = 0
 add_up (x ∷ xs) = x + add_up xs
 
--- what is not settled yet is a whole number of units
+-- what the pending unit and those still to be called hold makes up a whole number of units
 abbrev pub Even : ℕ → List ℕ → ℕ → Option ℕ → Type 0
 Even all holds called pend = (amount holds pend + add_up (drop called holds)) % all ≡ 0
 
+-- all these facts, and the limits
 abbrev pub Held : ℕ → List ℕ → ℕ → Option ℕ → Type 0
 Held all holds called pend =
     (0 < all) × (all ≤ 10240000) × (called ≤ length holds) × Within all holds
@@ -66,9 +74,9 @@ Held all holds called pend =
 abbrev pub Ready : ℕ → List ℕ → ℕ → Option ℕ → Type 0
 Ready all holds called pend = called < length holds → (is_some pend ≡ true) × (slice_index holds called ≢ all)
 
--- the fact of a run that stands
-abbrev pub Whole : ℕ → List ℕ → ℕ → Option ℕ → Type 0
-Whole all holds called pend = Held all holds called pend × Ready all holds called pend
+-- a run that stands: those facts, and the next unit to be called has to duel
+abbrev pub Intact : ℕ → List ℕ → ℕ → Option ℕ → Type 0
+Intact all holds called pend = Held all holds called pend × Ready all holds called pend
 
 -- a duel is due: i is pending and holds a, and the unit to be called holds b
 pub record Due (holds : List ℕ) (called : ℕ) (pend : Option ℕ) (i a b : ℕ) : Type 0 where

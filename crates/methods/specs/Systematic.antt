@@ -3,8 +3,7 @@ use Rattle.std.specs.Prelude.{ℕ, zero, suc, ◌+◌, ◌*◌, Bool, false, ◌
 use Rattle.outcomes.specs.Sums.{sum}
 use Rattle.outcomes.specs.Trees.{Tree, finished, branching, Sample}
 use Rattle.design.specs.Lists.{total}
-use Rattle.design.specs.Design.{Plan}
-use Rattle.design.specs.declared.row.Row.{Row}
+use Rattle.design.specs.Plans.{Plans}
 use Rattle.methods.specs.Plain.{goals, plain_plan}
 
 -- some number below `count` passes the test
@@ -28,5 +27,6 @@ struck all goals r k = among all (numbers_from goals k) (slice_index goals k) r
 unfoldable pub systematic : ℕ → List ℕ → Tree Sample
 systematic all goals = branching all (λ r. finished (λ k. struck all goals r k))
 
-abbrev pub systematic_plan : List Row → ℕ → Plan
+-- what the plain design over this method does with a list and a sample size
+abbrev pub systematic_plan : Plans
 systematic_plan list n = plain_plan list n (systematic (total list) (goals list n))

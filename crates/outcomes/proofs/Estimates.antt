@@ -8,9 +8,13 @@ use lib.IntN.{ℤ, pos, ◌*ℤ◌}
 use borrow.Author.Differences.{up, down, same_in, sum_is_lem, product_is}
 use Rattle.outcomes.specs.Sums.{sum, sumℤ, others}
 use Rattle.outcomes.specs.Trees.{Tree, finished, branching, Sample, weight, expect, expectℤ, inclusion, Share}
-use Rattle.outcomes.specs.Estimates.{sample_sum, sample_sumℤ}
+use Rattle.outcomes.specs.Estimates.{sample_sumℤ}
 use Rattle.outcomes.proofs.Sums.{sum_same, sum_scale}
 use Rattle.outcomes.proofs.Trees.{expect_same, expect_add, expect_scale, expect_constant}
+
+-- the sum over a sample, of numbers that are not signed
+abbrev pub sample_sum : ℕ → (ℕ → ℕ) → Sample → ℕ
+sample_sum R c u = sum R (λ k. cond (u k) (c k) 0)
 
 -- ---- linearity
 pub expect-sum : {A : Type 0} (R : ℕ) (X : ℕ → A → ℕ) (t : Tree A) → expect (λ a. sum R (λ k. X k a)) t ≡ sum R (λ k. expect (X k) t)

@@ -8,11 +8,11 @@ use Rattle.outcomes.proofs.Trees.{average_one}
 use Rattle.design.specs.Design.{Plan, refuses, accepts, Standing, no_run, in_run, Shared, Taken}
 use Rattle.design.specs.declared.fault.Fault.{Fault}
 use Rattle.design.specs.declared.fraction.Fraction.{Fraction}
-use Rattle.design.specs.Plans.{fraction, share_of}
-use Rattle.parts.specs.Copying.{outcome_in, outcome_of, Over, Fresh, written}
+use Rattle.design.specs.Plans.{fraction, share_of, outcome}
+use Rattle.parts.specs.Copying.{outcome_of, Over, Fresh, overwritten}
 
 -- ---- answers of the design below
-pub finished_is : (t : Tree Sample) → HasWays t → ways t ≡ 0 → t ≡ finished (outcome_in t)
+pub finished_is : (t : Tree Sample) → HasWays t → ways t ≡ 0 → t ≡ finished (outcome t)
 finished_is (finished u) s e = refl
 finished_is (branching m sub) s e = absurd (omega (arith, s.0, e))
 
@@ -26,7 +26,7 @@ flag_is : (st : Standing) (k n : ℕ) (b : Bool) → Taken st k (Ok b) → Over 
 flag_is no_run k n b t o l = absurd o
 flag_is (in_run r) k n b t o l = by r.tree o.1 o.2 t.1.0 t.1.1
   where
-    by : (x : Tree Sample) → HasWays x → ways x ≡ 0 → (T b → Always k x) → (Always k x → T b) → b ≡ outcome_in x k
+    by : (x : Tree Sample) → HasWays x → ways x ≡ 0 → (T b → Always k x) → (Always k x → T b) → b ≡ outcome x k
     by (finished u) s e p q = same b (u k) p q
     by (branching m sub) s e p q = absurd (omega (arith, s.0, e))
 
@@ -50,28 +50,28 @@ share_found (accepts num run) st k n (Err e) d h w l =
 
 -- ---- values written in their places
 module _ {X : Type 0} (f : ℕ → X) where
-  pub written_in : (a b k : ℕ) (w : ℕ → X) → a ≤ k → k < b → written f a b w k ≡ w (k - a)
+  pub written_in : (a b k : ℕ) (w : ℕ → X) → a ≤ k → k < b → overwritten f a b w k ≡ w (k - a)
   written_in a b k w l m = ap (λ t. cond t (w (k - a)) (f k)) (ap₂ ◌&&◌ (le-leb a k l) (lt-ltb k b m))
 
-  pub written_before : (a b k : ℕ) (w : ℕ → X) → k < a → written f a b w k ≡ f k
+  pub written_before : (a b k : ℕ) (w : ℕ → X) → k < a → overwritten f a b w k ≡ f k
   written_before a b k w l = ap (λ t. cond (t && ltb k b) (w (k - a)) (f k)) (lt-leb a k l)
 
-  pub written_past : (a b k : ℕ) (w : ℕ → X) → b ≤ k → written f a b w k ≡ f k
+  pub written_past : (a b k : ℕ) (w : ℕ → X) → b ≤ k → overwritten f a b w k ≡ f k
   written_past a b k w m = by (cases_lt k a)
     where
-      by : (k < a) ⊎ (a ≤ k) → written f a b w k ≡ f k
+      by : (k < a) ⊎ (a ≤ k) → overwritten f a b w k ≡ f k
       by (inl l) = written_before a b k w l
       by (inr l) = ap (λ t. cond t (w (k - a)) (f k)) (ap₂ ◌&&◌ (le-leb a k l) (le-ltb k b m))
 
 -- a list in which those places are w, and all others are as before
 pub written_by : {X : Type 0} (d : X) (xs ys : List X) (a b : ℕ) (w : ℕ → X) → ((k : ℕ) → k < b - a → get_or ys (a + k) d ≡ w k)
-    → ((k : ℕ) → (k < a) ⊎ (b ≤ k) → get_or ys k d ≡ get_or xs k d) → (k : ℕ) → get_or ys k d ≡ written (λ i. get_or xs i d) a b w k
+    → ((k : ℕ) → (k < a) ⊎ (b ≤ k) → get_or ys k d ≡ get_or xs k d) → (k : ℕ) → get_or ys k d ≡ overwritten (λ i. get_or xs i d) a b w k
 written_by {X} d xs ys a b w here rest k = by (cases_lt k a) (cases_lt k b)
   where
     f : ℕ → X
     f i = get_or xs i d
 
-    by : (k < a) ⊎ (a ≤ k) → (k < b) ⊎ (b ≤ k) → get_or ys k d ≡ written f a b w k
+    by : (k < a) ⊎ (a ≤ k) → (k < b) ⊎ (b ≤ k) → get_or ys k d ≡ overwritten f a b w k
     by (inl l) m = rest k (inl l) ∙ sym (written_before f a b k w l)
     by (inr l) (inl m) =
         let e : k ≡ a + (k - a) = omega arith in

@@ -4,7 +4,8 @@ use borrow.Author.Tests.{lt-leb}
 use Rattle.std.proofs.lemmas.Bool.{cases_lt}
 use Rattle.design.specs.declared.row.Row.{Row}
 use Rattle.parts.specs.Parts.{starts, bounds, Part, cuts, cut, holds, place_of}
-use Rattle.parts.specs.Bounds.{Chain, Apart, Unless, Inside, Steps, Rising, seats, seat}
+use Rattle.parts.specs.Bounds.{Steps, Rising}
+use Rattle.parts.proofs.Chains.{Chain, Apart, Unless, Inside, seats, seat}
 use Rattle.parts.proofs.Holds.{holds_in, holds_past}
 
 -- ---- the bounds rise

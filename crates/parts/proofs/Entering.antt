@@ -9,11 +9,11 @@ use Rattle.design.specs.Design.{Plan, refuses, accepts, Run, Standing, in_run, B
 use Rattle.design.specs.declared.fault.Fault.{Fault}
 use Rattle.design.specs.declared.row.Row.{Row}
 use Rattle.parts.specs.Parts.{Part}
-use Rattle.design.specs.Plans.{Plans, tree_of, denominator_of}
-use Rattle.parts.specs.Series.{plan_for, joined, series, resumed, chosen}
+use Rattle.design.specs.Plans.{Plans, tree_of, denominator_of, outcome, SoundPlans}
+use Rattle.parts.specs.Series.{plan_for, joined, series, chosen}
 use Rattle.parts.specs.Bounds.{Accepted}
-use Rattle.parts.specs.Copying.{outcome_in, written}
-use Rattle.parts.specs.Running.{Tables, all_parts, first_row_of, part_at, is_chosen, so_far, ahead, run_over, has_present, standing_by, standing_of, run_from, NextChosen, at_stage, with_taken, Moved, Loaded, Begins, NoneFrom, Within, Present, Underway}
+use Rattle.parts.specs.Copying.{overwritten}
+use Rattle.parts.specs.Running.{Tables, all_parts, first_row_of, part_at, is_chosen, so_far, ahead, run_over, has_present, standing_by, standing_of, run_from, NextChosen, at_stage, with_taken, Undisturbed, Loaded, Begins, NoneFrom, Within, Present, Underway, resumed}
 use Rattle.parts.proofs.Places.{rising_mono, cut_done}
 use Rattle.parts.proofs.Seats.{split, bounded, rows_of, end_of}
 use Rattle.parts.proofs.Shares.{accepted_at}
@@ -61,11 +61,11 @@ started list (accepts num run) (Ok x) st s ok b =
     record { run = run; stands = b; tree_is = refl; units_are = s.units_listed; denominator_is = λ k. refl; lawful = s.lawful; ok = refl; begins = b }
 started list (accepts num run) (Err e) st s ok b = absurd b
 
-moved : {U : Type 0} (r : Result U Fault) (S : Type 0) (now old : Standing) → is_ok r ≡ true → S → now ≡ old → Moved r S now old
+moved : {U : Type 0} (r : Result U Fault) (S : Type 0) (now old : Standing) → is_ok r ≡ true → S → now ≡ old → Undisturbed r S now old
 moved (Ok x) S now old e s q = (s, q)
 moved (Err f) S now old e s q = absurd (false≢true e)
 
-module _ (B : Plans) (law : (list : List Row) (n : ℕ) → SoundPlan list (B list n)) (v : Tables) (L : Loaded B v) (flags : length v.taken ≡ length v.rows)
+module _ (B : Plans) (law : SoundPlans B) (v : Tables) (L : Loaded B v) (flags : length v.taken ≡ length v.rows)
     (all : length v.chosen + 1 ≡ length v.bounds) (from j : ℕ) (N : NextChosen v.chosen from j) (none : NoneFrom v (first_row_of v from)) where
   loaded : Loaded B (at_stage v j)
   loaded = record { rising = L.rising; accepted = L.accepted; shares_are = L.shares_are }
@@ -101,7 +101,7 @@ module _ (B : Plans) (law : (list : List Row) (n : ℕ) → SoundPlan list (B li
         ap (λ (t : Tree Sample). resumed B (part_at v j) (ahead v (j + 1)) (so_far v) t) (sym S.tree_is)
         ∙ ap (λ (ps : List Part). series B ps (so_far v)) (sym ahead_is)
 
-    pub entered_part : (I : Type 0) → I → Moved x (Underway I B (at_stage v j) st) (standing_of B (at_stage v j) st) (run_from B v from (so_far v))
+    pub entered_part : (I : Type 0) → I → Undisturbed x (Underway I B (at_stage v j) st) (standing_of B (at_stage v j) st) (run_from B v from (so_far v))
     entered_part I i =
         moved x (Underway I B (at_stage v j) st) (standing_of B (at_stage v j) st) (run_from B v from (so_far v)) S.ok
         (record {
@@ -118,7 +118,7 @@ module _ (B : Plans) (law : (list : List Row) (n : ℕ) → SoundPlan list (B li
 
   -- none is left
   pub entered_none : {U : Type 0} (u : U) (I : Type 0) (st : Standing) → length v.chosen ≤ j
-      → Moved {U = U} (Ok u) (Underway I B (at_stage v j) st) (standing_of B (at_stage v j) st) (run_from B v from (so_far v))
+      → Undisturbed {U = U} (Ok u) (Underway I B (at_stage v j) st) (standing_of B (at_stage v j) st) (run_from B v from (so_far v))
   entered_none u I st done = (
     record { loaded = loaded; flags = flags; present = subst (λ b. Present b I B (at_stage v j) st) (sym has) tt; unmoved = λ e l. absurd (omega (arith, l, done)) },
     ap (λ b. standing_by b B (at_stage v j) st) has ∙ ap (λ (ps : List Part). in_run (run_over B v (series B ps (so_far v)))) (sym ahead_none),
@@ -137,13 +137,13 @@ pub record Noted (B : Plans) (v : Tables) (taken : List Bool) (st : Standing) : 
   pub stands : run_from B v (v.stage + 1) (so_far (with_taken v taken)) ≡ standing_of B v st
 
 pub noted : (B : Plans) (v : Tables) (I : Type 0) (taken : List Bool) (r : Run) → Underway I B v (in_run r) → v.stage + 1 < length v.bounds → ways r.tree ≡ 0
-    → ((k : ℕ) → get_or taken k false ≡ written (so_far v) (first_row_of v v.stage) (first_row_of v (v.stage + 1)) (outcome_in r.tree) k)
+    → ((k : ℕ) → get_or taken k false ≡ overwritten (so_far v) (first_row_of v v.stage) (first_row_of v (v.stage + 1)) (outcome r.tree) k)
     → Noted B v taken (in_run r)
 noted B v I taken r U more over flags =
     let W : Within B v r = (subst (λ b. Present b I B v (in_run r)) has U.present).1 in
     record {
       loaded = record { rising = U.loaded.rising; accepted = U.loaded.accepted; shares_are = U.loaded.shares_are };
-      none = λ k l. flags k ∙ written_past (so_far v) (first_row_of v v.stage) (first_row_of v (v.stage + 1)) k (outcome_in r.tree) l
+      none = λ k l. flags k ∙ written_past (so_far v) (first_row_of v v.stage) (first_row_of v (v.stage + 1)) k (outcome r.tree) l
           ∙ W.none_ahead k (omega (arith, (bounded v U.loaded.rising v.stage more).0));
       stands =
           ap (λ (u : Sample). run_from B v (v.stage + 1) u) (fun_ext is)
@@ -155,6 +155,6 @@ noted B v I taken r U more over flags =
     has : has_present v ≡ true
     has = lt-ltb (v.stage + 1) (length v.bounds) more
 
-    is : (k : ℕ) → get_or taken k false ≡ joined (part_at v v.stage) (so_far v) (outcome_in r.tree) k
-    is k = flags k ∙ ap (λ (b : ℕ). cond (leb (first_row_of v v.stage) k && ltb k b) (outcome_in r.tree (k - first_row_of v v.stage)) (so_far v k))
+    is : (k : ℕ) → get_or taken k false ≡ joined (part_at v v.stage) (so_far v) (outcome r.tree) k
+    is k = flags k ∙ ap (λ (b : ℕ). cond (leb (first_row_of v v.stage) k && ltb k b) (outcome r.tree (k - first_row_of v v.stage)) (so_far v k))
         (sym (end_of v U.loaded.rising v.stage more))

@@ -6,9 +6,10 @@ use Rattle.design.specs.Faults.{Refusal}
 use Rattle.design.specs.Design.{Plan, refuses, accepts, SoundPlan}
 use Rattle.design.specs.declared.row.Row.{Row}
 use Rattle.parts.specs.Parts.{Part, bounds, parts, holds}
-use Rattle.design.specs.Plans.{Plans, tree_of, numerator_of, denominator_of}
+use Rattle.design.specs.Plans.{Plans, tree_of, numerator_of, denominator_of, SoundPlans}
 use Rattle.parts.specs.Series.{plan_for, joined, series, numerators, denominators, refused_or, part_refusal}
-use Rattle.parts.specs.Bounds.{Chain, Apart, Accepted, AllAccepted}
+use Rattle.parts.specs.Bounds.{Accepted, AllAccepted}
+use Rattle.parts.proofs.Chains.{Chain, Apart}
 use Rattle.parts.proofs.Holds.{holds_in, holds_past, holds_is, joined_out}
 use Rattle.parts.proofs.Cuts.{rising_bounds, chain_cut, chain_apart}
 use Rattle.parts.proofs.Series.{lawful_of}
@@ -52,7 +53,7 @@ pub prescribed_of : (list : List Row) (a : Plan) → SoundPlan list a → Accept
 prescribed_of list (refuses f) s ok k l = absurd ok
 prescribed_of list (accepts num run) s ok k l = s.prescribed k l
 
-module _ (B : Plans) (law : (list : List Row) (n : ℕ) → SoundPlan list (B list n)) where
+module _ (B : Plans) (law : SoundPlans B) where
   pub lawful_apart : (ps : List Part) (a e : ℕ) → Apart a ps e → AllAccepted B ps → (u : Sample) → ((k : ℕ) → T (u k) → k < e) → Lawful e (series B ps u)
   lawful_apart [] a e c ok u h = h
   lawful_apart (p ∷ ps) a e c ok u h =

@@ -6,7 +6,8 @@ use Rattle.std.proofs.lemmas.List.{drop_more, drop_all}
 use Rattle.std.proofs.lemmas.Bool.{cases_lt}
 use Rattle.design.specs.declared.row.Row.{Row}
 use Rattle.parts.specs.Parts.{Part, cuts, cut, holds, place_of}
-use Rattle.parts.specs.Bounds.{Chain, Steps, Rising}
+use Rattle.parts.specs.Bounds.{Steps, Rising}
+use Rattle.parts.proofs.Chains.{Chain}
 use Rattle.parts.proofs.Holds.{holds_in, holds_past}
 use Rattle.parts.proofs.Cuts.{steps_le}
 

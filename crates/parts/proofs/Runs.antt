@@ -6,7 +6,7 @@ use Rattle.std.proofs.lemmas.Bool.{cases_lt}
 use Rattle.design.specs.Lists.{row_at}
 use Rattle.design.specs.declared.row.Row.{Row}
 use Rattle.parts.specs.Parts.{starts, bounds}
-use Rattle.parts.specs.Bounds.{seats}
+use Rattle.parts.proofs.Chains.{seats}
 use Rattle.parts.specs.Laws.{PartsAreRuns}
 use Rattle.parts.proofs.Cuts.{rising_bounds, seat_place}
 

@@ -4,7 +4,8 @@ use Rattle.std.proofs.lemmas.Bool.{cases_lt, leb-true}
 use Rattle.std.proofs.lemmas.List.{get_or_default}
 use Rattle.parts.specs.Parts.{Part, holds, place_of}
 use Rattle.parts.specs.Series.{per_unit}
-use Rattle.parts.specs.Bounds.{Chain, Apart, Rising}
+use Rattle.parts.specs.Bounds.{Rising}
+use Rattle.parts.proofs.Chains.{Chain, Apart}
 use Rattle.parts.specs.Seats.{Seated}
 use Rattle.parts.specs.Running.{Tables, sample_of, all_parts, first_row_of, part_at}
 use Rattle.parts.proofs.Holds.{holds_in}

@@ -6,9 +6,11 @@ use Rattle.outcomes.proofs.Sequences.{every_bind, first_kept, second_kept, seque
 use Rattle.design.specs.Design.{Plan, refuses, accepts, SoundPlan}
 use Rattle.design.specs.declared.row.Row.{Row}
 use Rattle.parts.specs.Parts.{Part, bounds, parts, holds, place_of}
-use Rattle.design.specs.Plans.{Plans, nothing, tree_of, numerator_of, denominator_of}
-use Rattle.parts.specs.Series.{plan_for, joined, series, resumed, chosen, numerators, denominators}
-use Rattle.parts.specs.Bounds.{Chain, Apart, Accepted, AllAccepted, Unless, Inside, given_parts}
+use Rattle.design.specs.Plans.{Plans, nothing, tree_of, numerator_of, denominator_of, SoundPlans}
+use Rattle.parts.specs.Series.{plan_for, joined, series, chosen, numerators, denominators}
+use Rattle.parts.specs.Running.{resumed}
+use Rattle.parts.specs.Bounds.{Accepted, AllAccepted}
+use Rattle.parts.proofs.Chains.{Chain, Apart, Unless, Inside, given_parts}
 use Rattle.parts.specs.Laws.{SeriesFair, StagesFair}
 use Rattle.parts.proofs.Holds.{holds_before, holds_is, joined_in, joined_out}
 use Rattle.parts.proofs.Cuts.{rising_bounds, chain_cut, chain_apart, chain_inside}
@@ -68,7 +70,7 @@ module _ (B : Plans) where
       (every_all t (λ v. every_map (series B ps (joined p u v)) (λ w g. ap (λ b. cond b 1 0) (g ∙ joined_in p u v k a l))
       (kept ps (p.at + length p.rows) e k c l (joined p u v)))) h
 
-  module _ (law : (list : List Row) (n : ℕ) → SoundPlan list (B list n)) (c : Sample) where
+  module _ (law : SoundPlans B) (c : Sample) where
     -- once the parts c are chosen, the share of k is that in its part, or 0
     pub fair_given : (ps : List Part) (j a e k : ℕ) → Apart a ps e → AllAccepted B ps → Inside ps k → (u : Sample) → u k ≡ false
         → Average (X k) (given_parts B c j ps k) (denominators B ps k) (series B (chosen c j ps) u)
@@ -115,7 +117,7 @@ module _ (B : Plans) where
       by false d e h = h
 
   -- ---- the share of a unit is that of its part times that of the unit within it
-  pub fair_stages : (law : (list : List Row) (n : ℕ) → SoundPlan list (B list n)) (ps : List Part) (a e k num den : ℕ) (t : Tree Sample) → HasWays t → Apart a ps e → AllAccepted B ps → Inside ps k
+  pub fair_stages : (law : SoundPlans B) (ps : List Part) (a e k num den : ℕ) (t : Tree Sample) → HasWays t → Apart a ps e → AllAccepted B ps → Inside ps k
       → Average (X (place_of 0 ps k)) num den t
       → Average (X k) (num * numerators B ps k) (den * denominators B ps k) (bind t (λ c. series B (chosen c 0 ps) nothing))
   fair_stages law ps a e k num den t s h ok i first =
@@ -147,7 +149,7 @@ module _ (B : Plans) where
   fair_present p ps c j e k num den h a l u t s first =
       fair_in p (chosen c j ps) e k num den (apart_chosen c j (p.at + length p.rows) ps e h) a l u t s first
 
-  pub fair_ahead : (law : (list : List Row) (n : ℕ) → SoundPlan list (B list n)) (p : Part) (ps : List Part) (c : Sample) (j e k : ℕ) → Apart (p.at + length p.rows) ps e → AllAccepted B ps
+  pub fair_ahead : (law : SoundPlans B) (p : Part) (ps : List Part) (c : Sample) (j e k : ℕ) → Apart (p.at + length p.rows) ps e → AllAccepted B ps
       → Inside ps k → holds p k ≡ false → (u : Sample) → u k ≡ false → (t : Tree Sample) → HasWays t
       → Average (X k) (given_parts B c j ps k) (denominators B ps k) (resumed B p (chosen c j ps) u t)
   fair_ahead law p ps c j e k h ok i out u z t s =

@@ -2,14 +2,14 @@
 use Rattle.std.proofs.Common.{◌≡◌, ℕ, ◌+◌, ◌-◌, ◌*◌, ◌<◌, ◌≤◌, Bool, true, false, cond, List, length, drop, sym, refl, ◌∙◌, subst, ap₂, arith}
 use Rattle.outcomes.specs.Trees.{Tree, finished, Sample, weight, expect, Average, HasWays}
 use Rattle.outcomes.proofs.Trees.{lawful_ways}
-use Rattle.design.specs.Design.{Run, SoundPlan}
-use Rattle.design.specs.declared.row.Row.{Row}
+use Rattle.design.specs.Design.{Run}
 use Rattle.parts.specs.Parts.{Part}
-use Rattle.design.specs.Plans.{Plans, numerator_of, denominator_of}
-use Rattle.parts.specs.Series.{plan_for, resumed, numerators, denominators}
-use Rattle.parts.specs.Bounds.{Accepted, AllAccepted, Inside, given_parts}
+use Rattle.design.specs.Plans.{Plans, numerator_of, denominator_of, SoundPlans}
+use Rattle.parts.specs.Series.{plan_for, numerators, denominators}
+use Rattle.parts.specs.Bounds.{Accepted, AllAccepted}
+use Rattle.parts.proofs.Chains.{Inside, given_parts}
 use Rattle.parts.specs.Seats.{Seated}
-use Rattle.parts.specs.Running.{Tables, all_parts, first_row_of, part_at, is_chosen, so_far, ahead, Loaded, Within}
+use Rattle.parts.specs.Running.{Tables, all_parts, first_row_of, part_at, is_chosen, so_far, ahead, Loaded, Within, resumed}
 use Rattle.parts.proofs.Holds.{holds_past}
 use Rattle.parts.proofs.Cuts.{chain_inside}
 use Rattle.parts.proofs.Places.{rising_mono}
@@ -31,7 +31,7 @@ module _ (B : Plans) (v : Tables) (L : Loaded B v) where
       by false = omega arith
 
   -- ---- the design has the run r in the present part
-  module _ (law : (list : List Row) (n : ℕ) → SoundPlan list (B list n)) (more : v.stage + 1 < length v.bounds) (r : Run) (W : Within B v r) where
+  module _ (law : SoundPlans B) (more : v.stage + 1 < length v.bounds) (r : Run) (W : Within B v r) where
     abbrev now_tree : Tree Sample
     now_tree = resumed B (part_at v v.stage) (ahead v (v.stage + 1)) (so_far v) r.tree
 

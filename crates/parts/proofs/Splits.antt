@@ -3,7 +3,8 @@ use Rattle.std.proofs.Common.{◌≡◌, ℕ, zero, suc, ◌+◌, ◌-◌, ◌�
 use Rattle.parts.specs.Parts.{Part, place_of}
 use Rattle.design.specs.Plans.{Plans}
 use Rattle.parts.specs.Series.{plan_for, per_unit}
-use Rattle.parts.specs.Bounds.{Apart, Accepted, AllAccepted, Unless, Inside}
+use Rattle.parts.specs.Bounds.{Accepted, AllAccepted}
+use Rattle.parts.proofs.Chains.{Apart, Unless, Inside}
 use Rattle.parts.proofs.Holds.{holds_past}
 
 nothing : {p : Part} {ps : List Part} → ◌≡◌ {A = List Part} [] (p ∷ ps) → ⊥

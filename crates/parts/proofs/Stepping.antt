@@ -7,12 +7,11 @@ use Rattle.outcomes.specs.Trees.{Tree, finished, branching, Sample, Average, Law
 use Rattle.design.specs.Design.{Plan, refuses, accepts, Run, Standing, no_run, in_run, Shared, SoundPlan, SoundStanding, ways_of, below}
 use Rattle.design.specs.declared.fault.Fault.{Fault}
 use Rattle.design.specs.declared.fraction.Fraction.{Fraction}
-use Rattle.design.specs.declared.row.Row.{Row}
-use Rattle.design.specs.Plans.{Plans, fraction, numerator_of, denominator_of, share_of}
-use Rattle.parts.specs.Series.{plan_for, joined, series, resumed, denominators, numerators}
+use Rattle.design.specs.Plans.{Plans, fraction, numerator_of, denominator_of, share_of, SoundPlans}
+use Rattle.parts.specs.Series.{plan_for, joined, series, denominators, numerators}
 use Rattle.parts.specs.Bounds.{Steps, Rising}
 use Rattle.parts.specs.Seats.{Seated}
-use Rattle.parts.specs.Running.{Tables, all_parts, first_row_of, part_at, is_chosen, so_far, ahead, gone_on, Begins, run_over, has_present, standing_by, standing_of, Within, Present, Underway, Settled, Intact}
+use Rattle.parts.specs.Running.{Tables, all_parts, first_row_of, part_at, is_chosen, so_far, ahead, gone_on, Begins, run_over, has_present, standing_by, standing_of, Within, Present, Underway, Settled, Intact, resumed}
 use Rattle.parts.proofs.Seats.{chain, apart_after, rows_of, seat_row, seat_unit}
 use Rattle.parts.proofs.Series.{X, apart_chosen, accepted_chosen}
 use Rattle.parts.proofs.Shares.{accepted_at, share_over, share_behind, share_present, share_ahead}
@@ -93,7 +92,7 @@ stepped_down I I' B v st st' d U has i l e = by st U (subst (λ b. Present b I B
         )
 
 -- ---- share
-module _ (B : Plans) (law : (list : List Row) (n : ℕ) → SoundPlan list (B list n)) (v : Tables) (I : Type 0) where
+module _ (B : Plans) (law : SoundPlans B) (v : Tables) (I : Type 0) where
   module _ (k j : ℕ) (s : Seated v.bounds k j) where
     -- the numerator of a unit whose part is behind or ahead
     abbrev aside : ℕ

@@ -7,14 +7,13 @@ use Rattle.design.specs.Faults.{Refusal, Answers}
 use Rattle.design.specs.Design.{Plan, refuses, accepts, Standing, Began, SoundPlan}
 use Rattle.design.specs.declared.fault.Fault.{Fault}
 use Rattle.design.specs.declared.fraction.Fraction.{Fraction}
-use Rattle.design.specs.declared.row.Row.{Row}
 use Rattle.parts.specs.Parts.{Part}
-use Rattle.design.specs.Plans.{Plans, numerator_of, denominator_of, fraction, share_of}
+use Rattle.design.specs.Plans.{Plans, numerator_of, denominator_of, fraction, share_of, SoundPlans}
 use Rattle.parts.specs.Series.{plan_for, prescribed, refused_or, part_refusal}
 use Rattle.parts.specs.Bounds.{Rising}
 use Rattle.parts.specs.Seats.{Seated}
 use Rattle.parts.specs.Running.{Tables, all_parts, sample_of, first_row_of, part_at, no_share, Begins, Ready}
-use Rattle.parts.specs.Copying.{Fresh, written}
+use Rattle.parts.specs.Copying.{Fresh, overwritten}
 use Rattle.parts.specs.Trying.{with_shares, WrittenIn, Tried, Trial, TriedFrom}
 use Rattle.parts.proofs.Places.{rising_zero, rising_last, cut_done}
 use Rattle.parts.proofs.Seats.{split, rows_of, seat_unit}
@@ -30,7 +29,7 @@ answers_more (Some f) P Q (Err e) more h = h
 
 module _ (B : Plans) (v : Tables) (rise : Rising v.bounds (length v.rows)) where
   -- the design has begun on part j, and what share answers is written in
-  pub tried_part : {U V : Type 0} (u : U) (x : V) (law : (list : List Row) (n : ℕ) → SoundPlan list (B list n)) (j : ℕ) (shares : List Fraction) (st : Standing) → j + 1 < length v.bounds
+  pub tried_part : {U V : Type 0} (u : U) (x : V) (law : SoundPlans B) (j : ℕ) (shares : List Fraction) (st : Standing) → j + 1 < length v.bounds
       → Began {U = U} (plan_for B (part_at v j)) (Ok u) st
       → ((a : Plan) → Fresh a st (first_row_of v (j + 1) - first_row_of v j) → WrittenIn v j v.shares (share_of a) shares)
       → Tried {U = V} (plan_for B (part_at v j)) v j shares st (Ok x)
@@ -60,7 +59,7 @@ module _ (B : Plans) (v : Tables) (rise : Rising v.bounds (length v.rows)) where
     noted T w k l m = w k ∙ by (cases_lt k (first_row_of v (i + 1)))
       where
         by : (k < first_row_of v (i + 1)) ⊎ (first_row_of v (i + 1) ≤ k)
-            → written (λ i. get_or shares i no_share) (first_row_of v i) (first_row_of v (i + 1)) (share_of (plan_for B (part_at v i))) k ≡ prescribed B (all_parts v) k
+            → overwritten (λ i. get_or shares i no_share) (first_row_of v i) (first_row_of v (i + 1)) (share_of (plan_for B (part_at v i))) k ≡ prescribed B (all_parts v) k
         by (inl b) =
             let s : Seated v.bounds k i = record { place = place; low = l; high = b } in
             written_in (λ i. get_or shares i no_share) (first_row_of v i) (first_row_of v (i + 1)) k (share_of (plan_for B (part_at v i))) l b

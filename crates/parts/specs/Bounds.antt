@@ -1,21 +1,11 @@
--- Parts and their bounds, as contracts and proofs speak of them.
-use Rattle.std.specs.Prelude.{◌≡◌, ℕ, suc, ◌+◌, ◌-◌, ◌<◌, ◌≤◌, Bool, true, false, cond, List, [], ◌∷◌, length, drop, nat_le}
-use Rattle.outcomes.specs.Trees.{Sample}
+-- The bounds of parts, and what is said of all parts.
+use Rattle.std.specs.Prelude.{◌≡◌, ℕ, ◌<◌, List, [], ◌∷◌}
 use Rattle.design.specs.Design.{Plan, refuses, accepts}
-use Rattle.parts.specs.Parts.{Part, holds}
-use Rattle.design.specs.Plans.{Plans, numerator_of}
+use Rattle.parts.specs.Parts.{Part}
+use Rattle.design.specs.Plans.{Plans}
 use Rattle.parts.specs.Series.{plan_for}
 
--- the parts follow one another from the row a to the row e
-abbrev pub Chain : ℕ → List Part → ℕ → Type 0
-Chain a [] e = a ≡ e
-Chain a (p ∷ ps) e = (p.at ≡ a) × (0 < length p.rows) × Chain (a + length p.rows) ps e
-
--- the parts rise from the row a to the row e, with gaps
-abbrev pub Apart : ℕ → List Part → ℕ → Type 0
-Apart a [] e = a ≤ e
-Apart a (p ∷ ps) e = (a ≤ p.at) × (0 < length p.rows) × Apart (p.at + length p.rows) ps e
-
+-- the design accepts; it accepts every part
 abbrev pub Accepted : Plan → Type 0
 Accepted (refuses f) = ⊥
 Accepted (accepts num run) = Unit {0}
@@ -24,21 +14,7 @@ abbrev pub AllAccepted : Plans → List Part → Type 0
 AllAccepted B [] = Unit {0}
 AllAccepted B (p ∷ ps) = Accepted (plan_for B p) × AllAccepted B ps
 
-abbrev pub Unless : Bool → Type 0 → Type 0
-Unless true X = Unit {0}
-Unless false X = X
-
--- one of the parts holds k
-abbrev pub Inside : List Part → ℕ → Type 0
-Inside [] k = ⊥
-Inside (p ∷ ps) k = Unless (holds p k) (Inside ps k)
-
--- the numerator of k once the parts c are chosen
-abbrev pub given_parts : Plans → Sample → ℕ → List Part → ℕ → ℕ
-given_parts B c j [] k = 0
-given_parts B c j (p ∷ ps) k = cond (holds p k) (cond (c j) (numerator_of (plan_for B p) (k - p.at)) 0) (given_parts B c (suc j) ps k)
-
--- the bounds rise from a to e
+-- bounds that go up, step by step, from a to e; bounds from 0 on that rise to e
 abbrev pub Steps : ℕ → List ℕ → ℕ → Type 0
 Steps a [] e = a ≡ e
 Steps a (b ∷ bs) e = (a < b) × Steps b bs e
@@ -46,11 +22,3 @@ Steps a (b ∷ bs) e = (a < b) × Steps b bs e
 abbrev pub Rising : List ℕ → ℕ → Type 0
 Rising [] e = ⊥
 Rising (a ∷ bs) e = (a ≡ 0) × Steps a bs e
-
--- which of the parts between the bounds the row k lies in
-unfoldable pub seats : List ℕ → ℕ → ℕ
-seats [] k = 0
-seats (b ∷ bs) k = cond (nat_le b k) (suc (seats bs k)) 0
-
-abbrev pub seat : List ℕ → ℕ → ℕ
-seat bs k = seats (drop 1 bs) k

@@ -1,11 +1,10 @@
 -- The laws of parts and of a design's trees over them, as statements.
 use Rattle.std.specs.Prelude.{◌≡◌, ℕ, ◌+◌, ◌*◌, ◌<◌, Bool, true, ◌↔◌, List, length}
 use Rattle.outcomes.specs.Trees.{Tree, Sample, Share, HasWays, bind}
-use Rattle.design.specs.Design.{SoundPlan}
 use Rattle.design.specs.Lists.{row_at}
 use Rattle.design.specs.declared.row.Row.{Row}
 use Rattle.parts.specs.Parts.{parts, place_of}
-use Rattle.design.specs.Plans.{Plans, nothing}
+use Rattle.design.specs.Plans.{Plans, SoundPlans, nothing}
 use Rattle.parts.specs.Series.{series, chosen, numerators, denominators}
 use Rattle.parts.specs.Bounds.{AllAccepted}
 
@@ -16,13 +15,13 @@ PartsAreRuns = (alike : Row → Row → Bool) (sample : ℕ → ℕ) (list : Lis
 
 -- in the series of all parts, each unit has the share that the design gives it in its part
 abbrev pub SeriesFair : Type 0
-SeriesFair = (B : Plans) → ((list : List Row) (n : ℕ) → SoundPlan list (B list n))
+SeriesFair = (B : Plans) → SoundPlans B
     → (alike : Row → Row → Bool) (sample : ℕ → ℕ) (list : List Row) → AllAccepted B (parts alike sample list) → (k : ℕ) → k < length list
     → Share k (numerators B (parts alike sample list) k) (denominators B (parts alike sample list) k) (series B (parts alike sample list) nothing)
 
 -- where the parts themselves are drawn by a tree t, a unit's share is that of its part times the one that the design gives it there
 abbrev pub StagesFair : Type 0
-StagesFair = (B : Plans) → ((list : List Row) (n : ℕ) → SoundPlan list (B list n))
+StagesFair = (B : Plans) → SoundPlans B
     → (alike : Row → Row → Bool) (sample : ℕ → ℕ) (list : List Row) → AllAccepted B (parts alike sample list) → (k : ℕ) → k < length list
     → (t : Tree Sample) (num den : ℕ) → HasWays t → Share (place_of 0 (parts alike sample list) k) num den t
     → Share k (num * numerators B (parts alike sample list) k) (den * denominators B (parts alike sample list) k)

@@ -1,13 +1,13 @@
 -- A series under way: a design runs on the chosen parts of a list, one after another. What its tables hold, and what then stands.
 use Rattle.std.specs.Prelude.{◌≡◌, ℕ, ◌+◌, ◌-◌, ◌<◌, ◌≤◌, Bool, true, false, List, length, take, drop, Ok, Err, Result, nat_lt, slice_index, slice_index_or}
-use Rattle.outcomes.specs.Trees.{Tree, finished, Sample, Lawful}
+use Rattle.outcomes.specs.Trees.{Tree, finished, Sample, Lawful, bind}
 use Rattle.design.specs.Design.{Plan, Run, Standing, no_run, in_run, Began, ways_of}
 use Rattle.design.specs.declared.fault.Fault.{Fault}
 use Rattle.design.specs.declared.fraction.Fraction.{Fraction}
 use Rattle.design.specs.declared.row.Row.{Row}
 use Rattle.parts.specs.Parts.{Part, cut}
 use Rattle.design.specs.Plans.{Plans, fraction, denominator_of}
-use Rattle.parts.specs.Series.{plan_for, series, resumed, chosen, denominators, prescribed}
+use Rattle.parts.specs.Series.{plan_for, joined, series, chosen, denominators, prescribed}
 use Rattle.parts.specs.Bounds.{AllAccepted, Rising}
 
 -- the rows of the list, the first rows of its parts with the row past the list, each part's sample size, each unit's prescribed share,
@@ -23,9 +23,11 @@ pub record Tables : Type 0 where
   pub stage : ℕ
   pub moved : Bool
 
+-- the sample size of part j
 abbrev pub sample_of : Tables → ℕ → ℕ
 sample_of v j = slice_index v.samples j
 
+-- the parts of the list
 abbrev pub all_parts : Tables → List Part
 all_parts v = cut (sample_of v) v.rows v.bounds
 
@@ -36,10 +38,11 @@ first_row_of v j = slice_index v.bounds j
 abbrev pub part_at : Tables → ℕ → Part
 part_at v j = record { at = first_row_of v j; rows = take (first_row_of v (j + 1) - first_row_of v j) (drop (first_row_of v j) v.rows); sample = sample_of v j }
 
+-- the chosen parts, by their numbers
 abbrev pub is_chosen : Tables → Sample
 is_chosen v j = slice_index_or v.chosen j false
 
--- the prescribed share of the unit k
+-- what stands where no share is noted; the prescribed share of the unit k
 abbrev pub no_share : Fraction
 no_share = fraction 0 0
 
@@ -55,6 +58,11 @@ abbrev pub ahead : Tables → ℕ → List Part
 ahead v j = chosen (is_chosen v) j (drop j (all_parts v))
 
 -- ---- what stands
+-- the present tree t of the part p, then the parts ps
+abbrev pub resumed : Plans → Part → List Part → Sample → Tree Sample → Tree Sample
+resumed B p ps u t = bind t (λ v. series B ps (joined p u v))
+
+-- the run over all rows whose present tree is t
 abbrev pub run_over : Plans → Tables → Tree Sample → Run
 run_over B v t = record { tree = t; units = length v.rows; denominator = denominators B (all_parts v) }
 
@@ -62,7 +70,8 @@ run_over B v t = record { tree = t; units = length v.rows; denominator = denomin
 abbrev pub has_present : Tables → Bool
 has_present v = nat_lt (v.stage + 1) (length v.bounds)
 
--- the design has the standing st: in the present part, if there is one; else all parts are behind
+-- the run that stands, where the design below has the standing st: it goes on in the present part, if there is one (the flag says so); else
+-- all parts are behind, and the run has come to its outcome
 abbrev pub standing_by : Bool → Plans → Tables → Standing → Standing
 standing_by true B v no_run = no_run
 standing_by true B v (in_run r) = in_run (run_over B v (resumed B (part_at v v.stage) (ahead v (v.stage + 1)) (so_far v) r.tree))
@@ -83,6 +92,7 @@ pub record NextChosen (flags : List Bool) (j r : ℕ) : Type 0 where
   pub passed : (i : ℕ) → j ≤ i → i < r → slice_index_or flags i false ≡ false
   pub found : r < length flags → slice_index_or flags r false ≡ true
 
+-- the same tables, with the present part j, in which the design has just begun; with other taken units; and gone on in the present part
 abbrev pub at_stage : Tables → ℕ → Tables
 at_stage v j = record {
   rows = v.rows;
@@ -119,10 +129,10 @@ gone_on v = record {
   moved = true;
 }
 
--- the call is accepted, and S holds then; the run that stands is as it was
-abbrev pub Moved : {U : Type 0} → Result U Fault → Type 0 → Standing → Standing → Type 0
-Moved (Ok x) S st old = S × (st ≡ old)
-Moved (Err e) S st old = ⊥
+-- the call is accepted, S then holds, and the run that stands is as it was
+abbrev pub Undisturbed : {U : Type 0} → Result U Fault → Type 0 → Standing → Standing → Type 0
+Undisturbed (Ok x) S st old = S × (st ≡ old)
+Undisturbed (Err e) S st old = ⊥
 
 -- ---- what belongs together
 -- the design accepts every part, and the prescribed shares are there
@@ -155,7 +165,7 @@ pub record Within (B : Plans) (v : Tables) (r : Run) : Type 0 where
   pub denominator_is : (k : ℕ) → r.denominator k ≡ denominator_of (plan_for B (part_at v v.stage)) k
   pub none_ahead : NoneFrom v (first_row_of v v.stage)
 
--- I says that the design is intact
+-- there is a present part, and the design, of which I says that it is intact, runs in it; or there is none
 abbrev pub Present : Bool → Type 0 → Plans → Tables → Standing → Type 0
 Present true I B v no_run = ⊥
 Present true I B v (in_run r) = I × Within B v r
@@ -165,6 +175,7 @@ Present false I B v st = Unit {0}
 abbrev pub Unmoved : Plans → Tables → Standing → Type 0
 Unmoved B v st = v.stage < length v.chosen → Begins (plan_for B (part_at v v.stage)) st × (is_chosen v v.stage ≡ true)
 
+-- a run over the parts is under way; the present one may have come to its outcome
 pub record Underway (I : Type 0) (B : Plans) (v : Tables) (st : Standing) : Type 0 where
   pub loaded : Loaded B v
   pub flags : length v.taken ≡ length v.rows
@@ -176,6 +187,7 @@ abbrev pub Settled : Bool → Standing → Type 0
 Settled true st = 0 < ways_of st
 Settled false st = Unit {0}
 
+-- under way, and settled: the parts of the state belong together
 pub record Intact (I : Type 0) (B : Plans) (v : Tables) (st : Standing) : Type 0 where
   pub underway : Underway I B v st
   pub settled : Settled (has_present v) st

@@ -1,7 +1,7 @@
 -- A design run on parts of a list, one after another.
-use Rattle.std.specs.Prelude.{ℕ, suc, ◌+◌, ◌-◌, min, cond, List, [], ◌∷◌, Some, None, Option}
+use Rattle.std.specs.Prelude.{ℕ, suc, ◌+◌, ◌-◌, cond, List, [], ◌∷◌, Some, None, Option}
 use Rattle.outcomes.specs.Trees.{Tree, finished, Sample, bind}
-use Rattle.design.specs.Faults.{Refusal}
+use Rattle.design.specs.Faults.{Refusal, refusal_passed_up}
 use Rattle.design.specs.Design.{Plan, refuses, accepts}
 use Rattle.design.specs.declared.fraction.Fraction.{Fraction}
 use Rattle.design.specs.Plans.{Plans, tree_of, numerator_of, denominator_of, fraction}
@@ -19,10 +19,6 @@ joined p u v k = cond (holds p k) (v (k - p.at)) (u k)
 abbrev pub series : Plans → List Part → Sample → Tree Sample
 series B [] u = finished u
 series B (p ∷ ps) u = bind (tree_of (plan_for B p)) (λ v. series B ps (joined p u v))
-
--- the present tree t of the part p, then the parts ps
-abbrev pub resumed : Plans → Part → List Part → Sample → Tree Sample → Tree Sample
-resumed B p ps u t = bind t (λ v. series B ps (joined p u v))
 
 -- the parts of ps that c holds by their number, the first of ps being the part j
 abbrev pub chosen : Sample → ℕ → List Part → List Part
@@ -44,12 +40,9 @@ denominators B ps = per_unit (λ p. denominator_of (plan_for B p)) ps
 abbrev pub prescribed : Plans → List Part → ℕ → Fraction
 prescribed B ps k = fraction (numerators B ps k) (denominators B ps k)
 
--- a refusal from below, of a part whose first row is `at`: that row added, and 1 to the depth, up to 255
-abbrev pub raised : ℕ → Refusal → Refusal
-raised at f = record { number = f.number; row = at + f.row; depth = min 255 (f.depth + 1) }
-
+-- the refusal of a part whose first row is `at`, passed upward with that row added to its own; else what follows
 abbrev pub refused_or : ℕ → Plan → Option Refusal → Option Refusal
-refused_or at (refuses f) o = Some (raised at f)
+refused_or at (refuses f) o = Some (refusal_passed_up (at + f.row) f)
 refused_or at (accepts num run) o = o
 
 -- the first refusal of the parts, in order

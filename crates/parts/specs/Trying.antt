@@ -1,4 +1,4 @@
--- A design tried on every part of a list, to find refusals and note the prescribed shares.
+-- A view of a design that is tried on every part of a list, to find refusals and note the prescribed shares.
 use Rattle.std.specs.Prelude.{◌≡◌, ℕ, ◌+◌, ◌<◌, ◌≤◌, List, length, drop, Ok, Err, Result, slice_index_or}
 use Rattle.design.specs.Faults.{numbered, refusal_passed_up, Answers}
 use Rattle.design.specs.Design.{Plan, refuses, accepts, Standing, in_run}
@@ -7,8 +7,9 @@ use Rattle.design.specs.declared.fraction.Fraction.{Fraction}
 use Rattle.design.specs.Plans.{Plans, share_of}
 use Rattle.parts.specs.Series.{prescribed, part_refusal}
 use Rattle.parts.specs.Running.{Tables, all_parts, first_row_of, no_share, AtPart}
-use Rattle.parts.specs.Copying.{written}
+use Rattle.parts.specs.Copying.{overwritten}
 
+-- the same tables with other shares
 abbrev pub with_shares : Tables → List Fraction → Tables
 with_shares v shares = record {
   rows = v.rows;
@@ -23,7 +24,7 @@ with_shares v shares = record {
 
 -- the shares w of part j are written into xs
 abbrev pub WrittenIn : Tables → ℕ → List Fraction → (ℕ → Fraction) → List Fraction → Type 0
-WrittenIn v j xs w ys = (k : ℕ) → slice_index_or ys k no_share ≡ written (λ i. slice_index_or xs i no_share) (first_row_of v j) (first_row_of v (j + 1)) w k
+WrittenIn v j xs w ys = (k : ℕ) → slice_index_or ys k no_share ≡ overwritten (λ i. slice_index_or xs i no_share) (first_row_of v j) (first_row_of v (j + 1)) w k
 
 -- the design, which has the plan a for part j, was tried on it, and has the standing st: the prescribed shares are written in, and the run of
 -- the plan stands, or the refusal is passed up

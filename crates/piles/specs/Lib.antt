@@ -1,2 +1,3 @@
 pub mod Begun
 pub mod Piles
+pub mod Settings

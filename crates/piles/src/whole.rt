@@ -1,7 +1,5 @@
 ghost use Rattle.piles.specs.Begun.{FirstWays, FirstShare};
-ghost use Rattle.piles.specs.Piles.{strata_of_stages, stages_of_strata};
-ghost use Rattle.stratified.specs.Of.{takes_of};
-ghost use Rattle.two_stage.specs.Of.{number_set};
+ghost use Rattle.piles.specs.Settings.{plan_of_strata, plan_of_stages};
 
 use design::design::Design;
 use design::fault::Fault;
@@ -41,7 +39,7 @@ pub fn first_share<D: Design>(
 
 /// Begins a pile of strata, and answers the ways of its first throw.
 pub fn ways_of_strata(strata: &mut StrataOfStages, list: &[Row], n: u32) -> Result<u32, Fault>
-    ensures { FirstWays (strata_of_stages (takes_of strata.old) (number_set strata.old.strata.below) list.now n) result }
+    ensures { FirstWays (plan_of_strata strata.old list.now n) result }
 {
     first_ways(strata, list, n)
 }
@@ -53,14 +51,14 @@ pub fn share_of_strata(
     n: u32,
     k: u32,
 ) -> Result<Fraction, Fault>
-    ensures { FirstShare (strata_of_stages (takes_of strata.old) (number_set strata.old.strata.below) list.now n) k result }
+    ensures { FirstShare (plan_of_strata strata.old list.now n) k result }
 {
     first_share(strata, list, n, k)
 }
 
 /// Begins a pile of stages, and answers the ways of its first throw.
 pub fn ways_of_stages(stages: &mut StagesOfStrata, list: &[Row], n: u32) -> Result<u32, Fault>
-    ensures { FirstWays (stages_of_strata (number_set stages.old) (takes_of stages.old.first) (takes_of stages.old.second.below) list.now n) result }
+    ensures { FirstWays (plan_of_stages stages.old list.now n) result }
 {
     first_ways(stages, list, n)
 }
@@ -72,7 +70,7 @@ pub fn share_of_stages(
     n: u32,
     k: u32,
 ) -> Result<Fraction, Fault>
-    ensures { FirstShare (stages_of_strata (number_set stages.old) (takes_of stages.old.first) (takes_of stages.old.second.below) list.now n) k result }
+    ensures { FirstShare (plan_of_stages stages.old list.now n) k result }
 {
     first_share(stages, list, n, k)
 }

@@ -1,7 +1,7 @@
 -- A pivotal run as its parts stand for it, and the duel that is due in it.
 use Rattle.std.specs.Prelude.{◌≡◌, ℕ, ◌<◌, ◌≤◌, ◌≢◌, length, Some, None, Option, slice_index}
 use Rattle.outcomes.specs.Trees.{Tree, Sample, ways}
-use Rattle.methods.specs.PivotalRuns.{pivotal_tree, Held, Whole, Due}
+use Rattle.methods.specs.PivotalRuns.{pivotal_tree, Held, Intact, Due}
 use Rattle.pivotal.specs.declared.Duels.{Duels}
 use Rattle.pivotal.specs.declared.duel.Duel.{Duel}
 use Rattle.plain.specs.Of.{whole, held}
@@ -15,8 +15,8 @@ tree_of units m = pivotal_tree (whole units) (held units) m.called m.pending
 abbrev pub HeldIn : Holdings → Duels → Type 0
 HeldIn units m = Held (whole units) (held units) m.called m.pending
 
-abbrev pub WholeIn : Holdings → Duels → Type 0
-WholeIn units m = Whole (whole units) (held units) m.called m.pending
+abbrev pub IntactIn : Holdings → Duels → Type 0
+IntactIn units m = Intact (whole units) (held units) m.called m.pending
 
 -- none where the tree has no way; else the pending unit with what it holds, and what the unit to be called holds
 abbrev pub DueDuel : Holdings → Duels → Option Duel → Type 0

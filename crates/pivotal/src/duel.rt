@@ -13,6 +13,13 @@ pub struct Duel {
     ghost small: { total ≤ 10240000 },
 }
 
+/// What the two units of a duel hold after its throw.
+#[derive(Clone, Copy)]
+pub struct Left {
+    pub pending: u32,
+    pub called: u32,
+}
+
 impl Duel {
     /// The ways of its throw.
     pub fn ways(&self) -> u32
@@ -27,17 +34,31 @@ impl Duel {
     }
 
     /// What the pending unit and the called one hold after the throw d.
-    pub fn left(&self, d: u32) -> (u32, u32)
-        ensures pending { result.0 ≡ pending_after self.now.total self.now.a self.now.b d }
-        ensures called { result.1 ≡ called_after self.now.total self.now.a self.now.b d }
+    pub fn left(&self, d: u32) -> Left
+        ensures pending { result.pending ≡ pending_after self.now.total self.now.a self.now.b d }
+        ensures called { result.called ≡ called_after self.now.total self.now.a self.now.b d }
     {
         let sum = self.a + self.b;
-        if sum < self.total {
+        let (pending, called) = if sum < self.total {
             if d < self.a { (sum, 0) } else { (0, sum) }
         } else if d < self.total - self.b {
             (self.total, sum - self.total)
         } else {
             (sum - self.total, self.total)
+        };
+        Left { pending, called }
+    }
+
+    /// Which of its two units is pending after a duel that leaves them so much.
+    pub fn keeper(&self, called: usize, left: Left) -> Option<usize>
+        ensures { result ≡ keeper_of self.now.total self.now.pending called left.pending left.called }
+    {
+        if holds_part(left.pending, self.total) {
+            Some(self.pending)
+        } else if holds_part(left.called, self.total) {
+            Some(called)
+        } else {
+            None
         }
     }
 }
@@ -47,17 +68,4 @@ fn holds_part(x: u32, total: u32) -> bool
     ensures { result ≡ short total x }
 {
     0 < x && x < total
-}
-
-/// Which of the units i and j is pending after a duel that leaves them x and y.
-pub fn keeper(i: usize, j: usize, x: u32, y: u32, total: u32) -> Option<usize>
-    ensures { result ≡ keeper_of total i j x y }
-{
-    if holds_part(x, total) {
-        Some(i)
-    } else if holds_part(y, total) {
-        Some(j)
-    } else {
-        None
-    }
 }

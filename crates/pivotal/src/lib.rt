@@ -5,13 +5,13 @@ mod duel;
 
 ghost use Rattle.std.specs.Prelude.{◌≡◌, ◌≤◌, false, length};
 ghost use Rattle.methods.specs.Pivotal.{nobody, pivotal, pivotal_plan};
-ghost use Rattle.methods.proofs.PivotalCalls.{pivotal_sound, whole_once};
+ghost use Rattle.methods.proofs.PivotalCalls.{pivotal_sound, intact_once};
 ghost use Rattle.methods.proofs.Pivotals.{fair, lawful};
-ghost use Rattle.pivotal.specs.Duels.{tree_of, HeldIn, WholeIn, DueDuel, NextShort};
+ghost use Rattle.pivotal.specs.Duels.{tree_of, HeldIn, IntactIn, DueDuel, NextShort};
 ghost use Rattle.plain.specs.Of.{whole, held};
 
 use design::design::Design;
-use duel::{Duel, keeper};
+use duel::Duel;
 use plain::Plain;
 use plain::holdings::Holdings;
 use plain::method::Method;
@@ -42,7 +42,7 @@ impl Duels {
     // Calls units until one has to duel, or all have been called.
     fn call(self, units: &Holdings) -> Self
         requires { HeldIn units.now self }
-        ensures kept { WholeIn units.now result }
+        ensures kept { IntactIn units.now result }
         ensures same { tree_of units.now result ≡ tree_of units.now self }
     {
         let called = next_short(units, self.called);
@@ -57,7 +57,7 @@ impl Duels {
 
     // The duel that is due, if one is.
     fn duel(&self, units: &Holdings) -> Option<Duel>
-        requires { WholeIn units.now self.now }
+        requires { IntactIn units.now self.now }
         ensures { DueDuel units.now self.now result }
     {
         if self.called >= units.units() {
@@ -78,7 +78,7 @@ impl Method for Duels {
 
     ghost tree = { λ m u. tree_of u m };
 
-    ghost kept = { λ m u. WholeIn u m };
+    ghost kept = { λ m u. IntactIn u m };
 
     ghost sound = { pivotal_sound };
 
@@ -89,7 +89,7 @@ impl Method for Duels {
       shares = λ k l. fair (whole u) (held u) m.called m.pending k h.0 l;
     } };
 
-    ghost kept_once = { λ m u. whole_once (whole u) (held u) m.called m.pending };
+    ghost kept_once = { λ m u. intact_once (whole u) (held u) m.called m.pending };
 
     fn start(units: &Holdings) -> Self {
         Duels::default().call(units)
@@ -102,12 +102,11 @@ impl Method for Duels {
     fn settle(&mut self, units: &mut Holdings, d: u32) {
         // A throw below the ways has its duel.
         let duel = self.duel(units).unwrap();
-        let j = self.called;
-        let (x, y) = duel.left(d);
-        units.set(duel.pending, x);
-        units.set(j, y);
+        let left = duel.left(d);
+        units.set(duel.pending, left.pending);
+        units.set(self.called, left.called);
+        self.pending = duel.keeper(self.called, left);
         self.called += 1;
-        self.pending = keeper(duel.pending, j, x, y, duel.total);
         *self = self.call(units);
     }
 }

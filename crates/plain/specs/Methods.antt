@@ -1,7 +1,7 @@
 -- What a method of drawing is given and leaves, over the units of its run.
 use Rattle.std.specs.Prelude.{◌≡◌, ℕ, ◌<◌, ◌≤◌, List, length, None, slice_index}
 use Rattle.outcomes.specs.Trees.{Tree, Sample, Share, Lawful}
-use Rattle.design.specs.Design.{Plan}
+use Rattle.design.specs.Plans.{Plans}
 use Rattle.design.specs.Lists.{total}
 use Rattle.design.specs.declared.row.Row.{Row}
 use Rattle.methods.specs.Plain.{goals, plain_refusal, plain_plan}
@@ -9,7 +9,7 @@ use Rattle.plain.specs.Of.{runs, whole, held, HoldsGoals}
 use Rattle.plain.specs.declared.holdings.Holdings.{Holdings}
 
 -- the plan of the plain design that has such a tree by the total and the goals of a list
-abbrev pub plan_from : (ℕ → List ℕ → Tree Sample) → List Row → ℕ → Plan
+abbrev pub plan_from : (ℕ → List ℕ → Tree Sample) → Plans
 plan_from tree list n = plain_plan list n (tree (total list) (goals list n))
 
 -- a run has begun on a list that is not refused, and each unit holds its goal

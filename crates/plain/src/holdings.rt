@@ -1,7 +1,7 @@
 ghost use Rattle.std.specs.Prelude.{◌≤◌, length};
 
 use bounded::BoundedVec;
-use design::check::MOST_ROWS;
+use design::limits::MOST_ROWS;
 
 pub mod calls;
 
@@ -12,6 +12,6 @@ pub struct Holdings {
     holds: BoundedVec<u32, MOST_ROWS>,
     // The total, while a run stands.
     total: Option<u32>,
-    // Said again, as what a type with a model keeps is not seen through its view.
+    // Repeated here, as who holds a BoundedVec sees its items only, and not its invariant.
     ghost few: { length holds ≤ 1024 },
 }

@@ -1,7 +1,6 @@
 ghost use Rattle.std.specs.Prelude.{◌≡◌, ℕ, ◌<◌, List};
 ghost use Rattle.outcomes.specs.Trees.{Tree, Sample, ways as ways_of, subtree};
-ghost use Rattle.design.specs.Design.{SoundPlan};
-ghost use Rattle.design.specs.declared.row.Row.{Row};
+ghost use Rattle.design.specs.Plans.{SoundPlans};
 ghost use Rattle.plain.specs.Methods.{Accepted, SameRun, HoldShares, plan_from};
 ghost use Rattle.plain.specs.Of.{whole, held};
 ghost use Rattle.plain.specs.declared.holdings.Holdings.{Holdings};
@@ -39,7 +38,7 @@ pub trait Method: Copy + Default {
         ensures same { SameRun units.old units.new };
 
     /// Every plan is sound.
-    ghost sound: { (list : List Row) (n : ℕ) → SoundPlan list (plan_from begun list n) };
+    ghost sound: { SoundPlans (plan_from begun) };
 
     /// While a run stands, what each unit holds is its exact share.
     ghost exact: { (m : Self) (u : Holdings) → kept m u → HoldShares u (tree m u) };

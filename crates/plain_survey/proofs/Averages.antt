@@ -13,7 +13,7 @@ use Rattle.design.specs.declared.row.Row.{Row}
 use Rattle.totals.specs.Rows.{raised}
 use Rattle.plain_survey.specs.States.{PlainRun}
 use Rattle.plain_survey.specs.Calls.{scale, weight_in}
-use Rattle.plain_survey.specs.Reports.{Kind, unlawful_at, row_at, added, report_of}
+use Rattle.plain_survey.specs.Reports.{Kind, unlawful_at, row_of_reading, added, report_of}
 use Rattle.plain_survey.specs.Laws.{EachEntryAdded, entry, true_total, FairTotals, FairReports}
 
 -- ---- the entries
@@ -73,7 +73,7 @@ abbrev pub RowsOf : {R : Type 0} → Kind R → Type 0
 RowsOf {R} kind = (x : R) → kind.is_lawful x ≡ true → length (kind.row x) ≡ kind.width
 
 lawful_row : {R : Type 0} (kind : Kind R) → RowsOf kind → (readings : List R) (k : ℕ) → k < length readings → unlawful_at kind readings k ≡ false
-    → length (row_at kind readings k) ≡ kind.width
+    → length (row_of_reading kind readings k) ≡ kind.width
 lawful_row kind rows [] k l e = absurd (omega (arith, l))
 lawful_row kind rows (x ∷ more) zero l e = rows x (yes (kind.is_lawful x) e)
   where
@@ -86,6 +86,6 @@ pub fair_reports : {R : Type 0} (kind : Kind R) → RowsOf kind → (P : Plans) 
 fair_reports kind rows P r at fair readings long lawful i l =
     let none = first_none (length readings) (unlawful_at kind readings) lawful in
     subst
-    (λ x. expectℤ (λ u. entry (report_of kind P r u readings).entries i) x ≡ pos (weight x * scale (P r.list r.n) r.list) *ℤ true_total (length r.list) (row_at kind readings) i)
+    (λ x. expectℤ (λ u. entry (report_of kind P r u readings).entries i) x ≡ pos (weight x * scale (P r.list r.n) r.list) *ℤ true_total (length r.list) (row_of_reading kind readings) i)
     (sym at)
-    (fair kind.width (row_at kind readings) (λ k m. let q : k < length readings = omega (arith, m, long) in lawful_row kind rows readings k q (none k q)) i l)
+    (fair kind.width (row_of_reading kind readings) (λ k m. let q : k < length readings = omega (arith, m, long) in lawful_row kind rows readings k q (none k q)) i l)

@@ -12,7 +12,8 @@ use Rattle.totals.specs.Rows.{raised}
 use Rattle.weights.specs.Scale.{scale_of, design_weight, too_heavy}
 use Rattle.plain_survey.specs.States.{PlainRun}
 use Rattle.plain_survey.specs.Calls.{start_refusal, weight_in}
-use Rattle.plain_survey.specs.Reports.{Kind, unlawful_at, row_at, added, is_finished, outcome, report_refusal}
+use Rattle.plain_survey.specs.Reports.{Kind, unlawful_at, row_of_reading, added, is_finished, report_refusal}
+use Rattle.design.specs.Plans.{outcome}
 
 -- an item of a list of images is the image of the item
 at_map : {A B : Type 0} (f : A → B) (xs : List A) (k : ℕ) (d : A) (e : B) → k < length xs → slice_index_or (map f xs) k e ≡ f (slice_index_or xs k d)
@@ -41,7 +42,7 @@ lawful_at kind readings k x l none is =
     yes true h = refl
     yes false h = sym h
 
-pub row_is : {R : Type 0} (kind : Kind R) (readings : List R) (k : ℕ) (x : R) → k < length readings → x ≡ slice_index_or readings k x → kind.row x ≡ row_at kind readings k
+pub row_is : {R : Type 0} (kind : Kind R) (readings : List R) (k : ℕ) (x : R) → k < length readings → x ≡ slice_index_or readings k x → kind.row x ≡ row_of_reading kind readings k
 row_is kind readings k x l is = ap kind.row is ∙ sym (at_map kind.row readings k x [] l)
 
 -- ---- what a report adds

@@ -23,6 +23,7 @@ pub data Reply : Type 0 where
   reported : Result Report Refusal → Reply
   stopped : Reply
 
+-- the reply that an answer gives
 abbrev pub reply_of : Answer → Reply
 reply_of (Started r) = started (told r)
 reply_of (Drawn r) = drawn (told r)
@@ -42,6 +43,7 @@ pub record WithTotal : Type 0 where
   pub total : Tally
 
 -- ---- one call
+-- what the plain survey replies to it
 abbrev pub reply : {R : Type 0} → Rules R → WithTotal → Call R → Reply
 reply rules w (Start list n) = started (start_answer (rules.plans list.now n) list.now)
 reply rules w Draw = drawn (draw_answer w.state)
@@ -50,7 +52,7 @@ reply rules w (Share k) = shared (share_answer rules.plans w.state.run k)
 reply rules w (ReportOn readings) = reported (report_answer rules.kind rules.plans w.state.run readings.now)
 reply rules w Stop = stopped
 
--- start, draw and stop lead to another state; a report leaves its total
+-- the state after it: start, draw and stop lead to another one
 abbrev pub state_after : {R : Type 0} → Rules R → State → Call R → State
 state_after rules st (Start list n) = start_after (rules.plans list.now n) list.now n st.words
 state_after rules st Draw = draw_after st
@@ -59,6 +61,7 @@ state_after rules st (Share k) = st
 state_after rules st (ReportOn readings) = st
 state_after rules st Stop = stop_after st
 
+-- the caller's total after it: a report leaves another one
 abbrev pub total_after : {R : Type 0} → Rules R → WithTotal → Call R → Tally
 total_after rules w (Start list n) = w.total
 total_after rules w Draw = w.total
@@ -67,16 +70,18 @@ total_after rules w (Share k) = w.total
 total_after rules w (ReportOn readings) = report_tally rules.kind rules.plans w.state.run readings.now w.total
 total_after rules w Stop = w.total
 
+-- both of them
 abbrev pub after : {R : Type 0} → Rules R → WithTotal → Call R → WithTotal
 after rules w c = record { state = state_after rules w.state c; total = total_after rules w c }
 
 -- an accepted start: at first each share is the prescribed one, and reports are right on the average
-pub record FairStart {R : Type 0} (rules : Rules R) (list : List Row) (n : ℕ) : Type 0 where
+pub record FairStartFor {R : Type 0} (rules : Rules R) (list : List Row) (n : ℕ) : Type 0 where
   pub shares : FirstShares (rules.plans list n) list
   pub reports : FairReports rules.kind rules.plans (first_run (rules.plans list n) list n)
 
+-- a call that starts a run is fair in that way, if it is accepted; of the others nothing is said
 abbrev pub FairIfStart : {R : Type 0} → Rules R → Call R → Type 0
-FairIfStart rules (Start list n) = start_refusal (rules.plans list.now n) list.now ≡ None → FairStart rules list.now n
+FairIfStart rules (Start list n) = start_refusal (rules.plans list.now n) list.now ≡ None → FairStartFor rules list.now n
 FairIfStart rules Draw = Unit {0}
 FairIfStart rules (TakenOf k) = Unit {0}
 FairIfStart rules (Share k) = Unit {0}
@@ -89,6 +94,7 @@ pub record LawsAfter {R : Type 0} (rules : Rules R) (w : WithTotal) (c : Call R)
   pub fair : FairIfStart rules c
 
 -- ---- a list of calls
+-- the replies, in the order of the calls
 abbrev pub replies : {R : Type 0} → Rules R → WithTotal → List (Call R) → List Reply
 replies rules w [] = []
 replies rules w (c ∷ cs) = reply rules w c ∷ replies rules (after rules w c) cs

@@ -9,7 +9,7 @@ use Rattle.design.specs.Plans.{Plans, tree_of, denominator_of, share_of}
 use Rattle.design.specs.declared.row.Row.{Row}
 use Rattle.plain_survey.specs.States.{PlainRun}
 use Rattle.plain_survey.specs.Calls.{in_every, scale, weight_in, share_in, share_now}
-use Rattle.plain_survey.specs.Reports.{Kind, unlawful_at, row_at, added, report_of}
+use Rattle.plain_survey.specs.Reports.{Kind, unlawful_at, row_of_reading, added, report_of}
 
 -- the run of a plan that accepts, where the present tree is t
 abbrev pub run_at : Plan → List Row → Tree Sample → Run
@@ -45,8 +45,8 @@ FairTotals p list =
     → expectℤ (λ u. entry (added (length list) u (weight_in p list) rows (replicate width (pos 0))) i) (tree_of p)
     ≡ pos (weight (tree_of p) * scale p list) *ℤ true_total (length list) rows i
 
--- directly after an accepted start: at first shares are the prescribed ones, and reports are right on the average
-pub record StartsFair (p : Plan) (list : List Row) : Type 0 where
+-- directly after an accepted start: shares are the prescribed ones, and reports are right on the average
+pub record FairStart (p : Plan) (list : List Row) : Type 0 where
   pub shares : FirstShares p list
   pub totals : FairTotals p list
 
@@ -55,7 +55,7 @@ abbrev pub FairReports : {R : Type 0} → Kind R → Plans → PlainRun → Type
 FairReports {R} kind P r =
     (readings : List R) → length readings ≡ length r.list → first (length readings) (unlawful_at kind readings) ≡ None → (i : ℕ) → i < kind.width
     → expectℤ (λ u. entry (report_of kind P r u readings).entries i) r.tree
-    ≡ pos (weight r.tree * scale (P r.list r.n) r.list) *ℤ true_total (length r.list) (row_at kind readings) i
+    ≡ pos (weight r.tree * scale (P r.list r.n) r.list) *ℤ true_total (length r.list) (row_of_reading kind readings) i
 
 -- taken answers yes exactly where the unit is in every outcome
 abbrev pub InEveryExactly : Type 0

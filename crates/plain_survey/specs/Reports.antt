@@ -4,7 +4,7 @@ use Rattle.outcomes.specs.Sums.{count}
 use Rattle.outcomes.specs.Trees.{Tree, finished, branching, Sample}
 use Rattle.design.specs.Faults.{Refusal, refusal, refused_if, refused_at, first_of}
 use Rattle.design.specs.Lists.{first}
-use Rattle.design.specs.Plans.{Plans, nothing}
+use Rattle.design.specs.Plans.{Plans, outcome}
 use Rattle.totals.specs.Rows.{raised}
 use Rattle.plain_survey.specs.States.{PlainRun}
 use Rattle.plain_survey.specs.Calls.{answer, scale, weight_in}
@@ -25,8 +25,8 @@ pub record Tally : Type 0 where
 abbrev pub unlawful_at : {R : Type 0} → Kind R → List R → ℕ → Bool
 unlawful_at kind readings k = not (slice_index_or (map kind.is_lawful readings) k true)
 
-abbrev pub row_at : {R : Type 0} → Kind R → List R → ℕ → List ℤ
-row_at kind readings k = slice_index_or (map kind.row readings) k []
+abbrev pub row_of_reading : {R : Type 0} → Kind R → List R → ℕ → List ℤ
+row_of_reading kind readings k = slice_index_or (map kind.row readings) k []
 
 -- ---- what a report leaves
 -- the entries raised by weight times row for each taken unit among the first `units`
@@ -34,7 +34,7 @@ abbrev pub added : ℕ → Sample → (ℕ → ℕ) → (ℕ → List ℤ) → L
 added zero u weight row entries = entries
 added (suc k) u weight row entries = cond (u k) (raised (weight k) (added k u weight row entries) (row k)) (added k u weight row entries)
 
--- whether a tree has come to an outcome, and whether there is a run that has; and the outcome
+-- whether a tree has come to an outcome, and whether there is a run that has
 abbrev pub is_finished : Tree Sample → Bool
 is_finished (finished u) = true
 is_finished (branching m sub) = false
@@ -43,14 +43,10 @@ abbrev pub has_outcome : Option PlainRun → Bool
 has_outcome None = false
 has_outcome (Some r) = is_finished r.tree
 
-abbrev pub outcome : Tree Sample → Sample
-outcome (finished u) = u
-outcome (branching m sub) = nothing
-
 -- the total that a report leaves with the units u taken: it is cleared, and weight and reading of each taken unit are added
 abbrev pub report_of : {R : Type 0} → Kind R → Plans → PlainRun → Sample → List R → Tally
 report_of kind P r u readings = record {
-  entries = added (length r.list) u (weight_in (P r.list r.n) r.list) (row_at kind readings) (replicate kind.width (pos 0));
+  entries = added (length r.list) u (weight_in (P r.list r.n) r.list) (row_of_reading kind readings) (replicate kind.width (pos 0));
   additions = count (length r.list) u;
 }
 

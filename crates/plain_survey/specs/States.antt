@@ -4,11 +4,13 @@ use Rattle.outcomes.specs.Trees.{Tree, Sample, ways, subtree}
 use Rattle.design.specs.Faults.{Refusal}
 use Rattle.design.specs.declared.row.Row.{Row}
 
+-- a run: the list and the sample size that it was started with, and the present tree
 pub record PlainRun : Type 0 where
   pub list : List Row
   pub n : ℕ
   pub tree : Tree Sample
 
+-- the words that wait in the source, and the run that stands, if one does
 pub record State : Type 0 where
   pub words : List ℕ
   pub run : Option PlainRun

@@ -2,7 +2,7 @@
 use Rattle.std.proofs.Common.{◌≡◌, ℕ, List, Result, Ok, Err, Some, None, Option, sym, ap, ◌∙◌, subst}
 use Rattle.frame_file.specs.declared.frame.Frame.{Frame}
 use Rattle.frame_file.specs.declared.fault.FieldFault.{FieldFault}
-use Rattle.frame_file.specs.Faults.{FileRefusal, field_published}
+use Rattle.frame_file.specs.Faults.{FileRefusal, numbered_field}
 use Rattle.frame_file.specs.Refusals.{file_refusal}
 use Rattle.frame_file.specs.Written.{written, Fits}
 use Rattle.frame_laws.proofs.FirstSpots.{refused_at_first, else_nothing_wrong}
@@ -21,7 +21,7 @@ exactly bytes (Ok g) read f = (
 )
 exactly bytes (Err x) refused f = (
   λ e. cc,
-  λ h. absurd (let none : ◌≡◌ {A = Option FileRefusal} (Some (field_published x)) None = sym refused ∙ unrefused bytes f h in cc),
+  λ h. absurd (let none : ◌≡◌ {A = Option FileRefusal} (Some (numbered_field x)) None = sym refused ∙ unrefused bytes f h in cc),
 )
 
 pub is_refusal : (bytes : List ℕ) (result : Result Frame FieldFault) → ReadsOrRefuses bytes result → IsRefusal bytes result
@@ -30,7 +30,7 @@ is_refusal bytes (Err x) refused = refused
 
 pub is_first_wrong : (bytes : List ℕ) (result : Result Frame FieldFault) → ReadsOrRefuses bytes result → IsFirstWrong bytes result
 is_first_wrong bytes (Ok f) read = tt
-is_first_wrong bytes (Err x) refused = (refused_at_first bytes (field_published x)).0 refused
+is_first_wrong bytes (Err x) refused = (refused_at_first bytes (numbered_field x)).0 refused
 
 pub nothing_wrong : (bytes : List ℕ) (result : Result Frame FieldFault) → ReadsOrRefuses bytes result → HasNothingWrong bytes result
 nothing_wrong bytes (Ok f) read = (else_nothing_wrong bytes).0 (unrefused bytes f read)

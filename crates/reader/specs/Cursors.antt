@@ -1,8 +1,8 @@
 -- What a cursor has left to read, and what a step of it reads.
-use Rattle.std.specs.Prelude.{◌≡◌, ◌⊎◌, ℕ, ◌+◌, List, [], ◌∷◌, Option, Some, None, ℤ, pos, negsuc, ◌≤ℤ◌}
+use Rattle.std.specs.Prelude.{◌≡◌, ◌⊎◌, ℕ, ◌+◌, List, [], ◌∷◌, Option, Some, None}
 use Rattle.std.specs.Borrow.{Bor}
 use Rattle.frame_file.specs.Pieces.{fields_of, line_cut_off, lines_of}
-use Rattle.frame_file.specs.Fields.{Kind, wrong_in}
+use Rattle.frame_file.specs.Fields.{FieldKind, wrong_in}
 use Rattle.frame_file.specs.Faults.{FileRefusal, wrong}
 use Rattle.reader.specs.Cuts.{Cut}
 use Rattle.reader.specs.declared.fields.Fields.{Fields}
@@ -24,20 +24,15 @@ pub record TakesField (from : Fields) (f : List ℕ) (to : Fields) : Type 0 wher
   pub column : to.column ≡ from.column + 1
 
 -- what is wrong in the first field that is left, which has to be of a kind: a missing field is 29
-abbrev pub wrong_next : Kind → List (List ℕ) → Option ℕ
+abbrev pub wrong_next : FieldKind → List (List ℕ) → Option ℕ
 wrong_next kind [] = Some 29
 wrong_next kind (f ∷ fs) = wrong_in kind f
 
 -- the first field that is left has to be of a kind, and that is its refusal
-pub record IsWrong (kind : Kind) (at : Fields) (x : FileRefusal) : Type 0 where
+pub record IsWrong (kind : FieldKind) (at : Fields) (x : FileRefusal) : Type 0 where
   pub number : ℕ
   pub is : wrong_next kind (left at) ≡ Some number
   pub there : x ≡ wrong number at.line at.column
-
--- an amount of money that may stand in a field
-pub record IsMoney (z : ℤ) : Type 0 where
-  pub low : negsuc 999999 ≤ℤ z
-  pub high : z ≤ℤ pos 1000000
 
 -- ---- lines
 -- one line is left, without its end byte

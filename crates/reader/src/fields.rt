@@ -2,15 +2,16 @@ ghost use Rattle.std.specs.Prelude.{◌≡◌, ◌+◌, ◌<◌, [], ◌∷◌, 
 ghost use Rattle.std.specs.Fmt.{signed_decimal};
 ghost use Rattle.frame_file.specs.Pieces.{fields_of};
 ghost use Rattle.frame_file.specs.Fields.{amount, number};
-ghost use Rattle.frame_file.specs.Faults.{field_published, number_of_field, wrong};
-ghost use Rattle.frame_file.specs.Written.{Between};
-ghost use Rattle.reader.specs.Cursors.{left, IsMoney, IsWrong, TakesField};
+ghost use Rattle.frame_file.specs.Faults.{numbered_field, wrong};
+ghost use Rattle.frame_file.specs.Written.{Between, MoneyFits};
+ghost use Rattle.reader.specs.Cursors.{left, IsWrong, TakesField};
 
 use crate::cut::cut;
 use crate::number::{money, natural};
 use frame_file::fault::{FieldFault, FieldReason};
 
-/// A line as it is read, field by field: what is left of it, if anything is, and the place of the next field.
+/// A line as it is read, field by field: what is left of it, if anything is, and the place of the next field. No line of a frame file has
+/// a hundred fields that are read, so the column is asked to be below that, and its count cannot overflow.
 #[derive(Drop)]
 pub(crate) struct Fields<'a> {
     rest: Option<&'a [u8]>,
@@ -46,7 +47,7 @@ impl<'a> Fields<'a> {
     fn take(&mut self) -> Result<&'a [u8], FieldFault>
         ensures place { (self.new.line ≡ self.old.line) × (self.new.column ≡ self.old.column) }
         ensures taken { IfOk result (λ f. left self.old ≡ f.now ∷ left self.new) }
-        ensures missing { IfErr result (λ e. (left self.old ≡ []) × (field_published e ≡ wrong 29 self.old.line self.old.column)) }
+        ensures missing { IfErr result (λ e. (left self.old ≡ []) × (numbered_field e ≡ wrong 29 self.old.line self.old.column)) }
     {
         let Some(text) = self.rest.take() else {
             return Err(self.fault(FieldReason::Shape));
@@ -64,7 +65,7 @@ impl<'a> Fields<'a> {
     pub(crate) fn natural(&mut self, low: u32, high: u32) -> Result<u32, FieldFault>
         requires { self.old.column < 100 }
         ensures taken { IfOk result (λ n. TakesField self.old (decimal n) self.new × Between low high n) }
-        ensures wrong { IfErr result (λ e. IsWrong (number low high) self.old (field_published e)) }
+        ensures wrong { IfErr result (λ e. IsWrong (number low high) self.old (numbered_field e)) }
     {
         let field = self.take()?;
         match natural(field, low, high) {
@@ -79,8 +80,8 @@ impl<'a> Fields<'a> {
     /// The next field, which has to be an amount of money.
     pub(crate) fn money(&mut self) -> Result<i32, FieldFault>
         requires { self.old.column < 100 }
-        ensures taken { IfOk result (λ z. TakesField self.old (signed_decimal z) self.new × IsMoney z) }
-        ensures wrong { IfErr result (λ e. IsWrong (amount 1000000) self.old (field_published e)) }
+        ensures taken { IfOk result (λ z. TakesField self.old (signed_decimal z) self.new × MoneyFits z) }
+        ensures wrong { IfErr result (λ e. IsWrong (amount 1000000) self.old (numbered_field e)) }
     {
         let field = self.take()?;
         match money(field) {
@@ -103,7 +104,7 @@ impl<'a> Fields<'a> {
     /// Refuses a field that is one too many.
     pub(crate) fn end(&self) -> Result<(), FieldFault>
         ensures done { OnOk result (left self.now ≡ []) }
-        ensures surplus { IfErr result (λ e. (0 < length (left self.now)) × (field_published e ≡ wrong 29 self.now.line self.now.column)) }
+        ensures surplus { IfErr result (λ e. (0 < length (left self.now)) × (numbered_field e ≡ wrong 29 self.now.line self.now.column)) }
     {
         if self.is_done() {
             Ok(())

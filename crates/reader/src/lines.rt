@@ -1,11 +1,12 @@
 ghost use Rattle.std.specs.Prelude.{◌≡◌, ◌+◌, ◌<◌, [], MatchOption, IfErr, IfOk};
-ghost use Rattle.frame_file.specs.Faults.{field_published, number_of_field, wrong};
+ghost use Rattle.frame_file.specs.Faults.{numbered_field, number_of_field, wrong};
 ghost use Rattle.reader.specs.Cursors.{IsCutOff, NoLine, TakesLine};
 
 use crate::cut::cut;
 use frame_file::fault::{FieldFault, FieldReason};
 
-/// A file as it is read, line by line: what is left of it, and the number of the line last asked for.
+/// A file as it is read, line by line: what is left of it, and the number of the line last asked for. No frame file has ten thousand lines
+/// that are read, so the number is asked to be below that, and its count cannot overflow.
 #[derive(Drop)]
 pub(crate) struct Lines<'a> {
     rest: &'a [u8],
@@ -32,7 +33,7 @@ impl<'a> Lines<'a> {
 
     /// A fault of the whole line last asked for.
     pub(crate) fn fault(&self, reason: FieldReason) -> FieldFault
-        ensures { field_published result ≡ wrong (number_of_field reason) self.now.number 1 }
+        ensures { numbered_field result ≡ wrong (number_of_field reason) self.now.number 1 }
     {
         FieldFault {
             reason,
@@ -47,7 +48,7 @@ impl<'a> Lines<'a> {
         requires { self.old.number < 10000 }
         ensures number { self.new.number ≡ self.old.number + 1 }
         ensures taken { IfOk result (λ line. MatchOption line (self.old.rest.now ≡ []) (λ text. TakesLine self.old text.now self.new)) }
-        ensures cut_off { IfErr result (λ e. IsCutOff self.old.rest.now × (field_published e ≡ wrong 29 self.new.number 1)) }
+        ensures cut_off { IfErr result (λ e. IsCutOff self.old.rest.now × (numbered_field e ≡ wrong 29 self.new.number 1)) }
     {
         self.number += 1;
         if self.rest.is_empty() {
@@ -65,7 +66,7 @@ impl<'a> Lines<'a> {
         requires { self.old.number < 10000 }
         ensures number { self.new.number ≡ self.old.number + 1 }
         ensures taken { IfOk result (λ text. TakesLine self.old text.now self.new) }
-        ensures missing { IfErr result (λ e. NoLine self.old.rest.now × (field_published e ≡ wrong 29 self.new.number 1)) }
+        ensures missing { IfErr result (λ e. NoLine self.old.rest.now × (numbered_field e ≡ wrong 29 self.new.number 1)) }
     {
         self.next()?.ok_or(self.fault(FieldReason::Shape))
     }

@@ -2,13 +2,10 @@ ghost use Rattle.std.specs.Prelude.{◌≡◌, ◌-◌, ◌^◌, ◌==◌, ◌||
 ghost use Rattle.std.specs.Fmt.{signed_decimal};
 ghost use Rattle.frame_file.specs.Faults.{number_of_field};
 ghost use Rattle.frame_file.specs.Fields.{amount, number, number_in, wrong_in};
-ghost use Rattle.frame_file.specs.Written.{Between};
-ghost use Rattle.reader.specs.Cursors.{IsMoney};
+ghost use Rattle.frame_file.specs.Written.{Between, MoneyFits};
 
 use frame_file::fault::FieldReason;
-
-// The largest amount of money in a field, either way.
-const MOST_MONEY: u32 = 1_000_000;
+use frame_file::frame::LARGEST_AMOUNT;
 
 // Whether the field is one byte, or begins above '0': no other is a number.
 fn may_be_number(field: &[u8]) -> bool
@@ -57,14 +54,14 @@ pub(crate) fn natural(field: &[u8], low: u32, high: u32) -> Result<u32, FieldRea
 /// The amount of money that the field writes, with a minus before it where it is below 0.
 #[tactic(auto, using(crate::proofs::Digits::minus_zero))]
 pub(crate) fn money(field: &[u8]) -> Result<i32, FieldReason>
-    ensures written { IfOk result (λ z. (field.now ≡ signed_decimal z) × IsMoney z) }
+    ensures written { IfOk result (λ z. (field.now ≡ signed_decimal z) × MoneyFits z) }
     ensures wrong { IfErr result (λ e. wrong_in (amount 1000000) field.now ≡ Some (number_of_field e)) }
 {
     match field {
-        [b'-', digits @ ..] => match natural(digits, 0, MOST_MONEY)? {
+        [b'-', digits @ ..] => match natural(digits, 0, LARGEST_AMOUNT)? {
             0 => Err(FieldReason::NotANumber),
             n => Ok(-(n as i32)),
         },
-        _ => Ok(natural(field, 0, MOST_MONEY)? as i32),
+        _ => Ok(natural(field, 0, LARGEST_AMOUNT)? as i32),
     }
 }

@@ -1,6 +1,6 @@
 ghost use Rattle.std.specs.Prelude.{◌≡◌, Some, IfErr, IfOk};
 ghost use Rattle.frame_file.specs.Pieces.{lines_of};
-ghost use Rattle.frame_file.specs.Faults.{field_published};
+ghost use Rattle.frame_file.specs.Faults.{numbered_field};
 ghost use Rattle.frame_file.specs.Refusals.{lines_refusal};
 ghost use Rattle.frame_file.specs.Written.{units_written, UnitsFit};
 ghost use Rattle.reader.specs.Reading.{HasNothingWrong, IsFirstWrong, IsRefusal, ReadsExactly, ReadsOrRefuses};
@@ -8,7 +8,7 @@ ghost use Rattle.reader.specs.Reading.{HasNothingWrong, IsFirstWrong, IsRefusal,
 use crate::line::{read_header, read_takes, read_unit};
 use crate::lines::Lines;
 use bounded::BoundedVec;
-use design::check::MOST_ROWS;
+use design::limits::MOST_ROWS;
 use frame_file::fault::{FieldFault, FieldReason};
 use frame_file::frame::{Frame, FrameUnit};
 
@@ -22,7 +22,7 @@ fn read_units(
 ) -> Result<(), FieldFault>
     requires { from.number ≡ 2 }
     ensures read { IfOk result (λ _. (from.entry.rest.now ≡ units_written units.new) × UnitsFit units.new) }
-    ensures refused { IfErr result (λ e. lines_refusal 3 (lines_of from.entry.rest.now) ≡ Some (field_published e)) }
+    ensures refused { IfErr result (λ e. lines_refusal 3 (lines_of from.entry.rest.now) ≡ Some (numbered_field e)) }
 {
     units.clear();
     let mut lines = from;

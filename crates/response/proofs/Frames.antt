@@ -22,7 +22,7 @@ amount_lawful (negsuc n) low high = le-leb (suc n) 1000000 (omega (arith, ints))
 pub amounts_lawful : (f : Frame) → UnitsFit f.units → All (λ x. IsTrue (money_lawful x)) (amounts_of f)
 amounts_lawful f fit =
     All-map (λ x. IsTrue (money_lawful x)) (λ (u : FrameUnit). u.money) f.units
-    (All-weaker UnitFits (λ u. IsTrue (money_lawful u.money)) (λ u h. amount_lawful u.money h.money_low h.money_high) f.units fit.each)
+    (All-weaker UnitFits (λ u. IsTrue (money_lawful u.money)) (λ u h. amount_lawful u.money h.money.low h.money.high) f.units fit.each)
 
 pub cells_lawful : (f : Frame) → UnitsFit f.units → All (λ (x : Cell). IsTrue (cell_lawful x.at)) (cells_of f)
 cells_lawful f fit =

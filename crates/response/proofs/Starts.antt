@@ -6,7 +6,7 @@ use Rattle.design.specs.declared.design.Design as Design
 use Rattle.design.specs.declared.row.Row.{Row}
 use Rattle.throws.specs.declared.source.Source as Source
 use Rattle.plain_survey.specs.Calls.{answer, start_refusal, start_answer, start_after, first_run, begun, share_now}
-use Rattle.plain_survey.specs.Laws.{FirstShares, StartsFair}
+use Rattle.plain_survey.specs.Laws.{FirstShares, FairStart}
 use Rattle.survey.specs.Means.{ComesTo, Means, plans}
 use Rattle.survey.specs.declared.survey.Survey.{Survey}
 use Rattle.response.specs.Runs.{StandsAt, prescribed_shares, shares_now}
@@ -23,7 +23,7 @@ accepted None u e = refl
 accepted (Some f) u e = never_refused (answer (Some f) tt) u f (sym e) refl
 
 pub started : {D S : Type 0} (d : Design.Ghosts D) (w : Source.Ghosts S) (old new : Survey D S) (list : List Row) (n : ℕ) (words : List ℕ) (u : Unit {0})
-    → Ok u ≡ start_answer (plans d old list n) list → ComesTo d w old new (start_after (plans d old list n) list n words) → StartsFair (plans d old list n) list
+    → Ok u ≡ start_answer (plans d old list n) list → ComesTo d w old new (start_after (plans d old list n) list n words) → FairStart (plans d old list n) list
     → Started d w new (plans d old) list n words
 started d w old new list n words u answers comes fair = record {
   unrefused = accepted (start_refusal (plans d old list n) list) u answers;

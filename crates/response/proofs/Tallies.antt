@@ -4,12 +4,12 @@ use Rattle.std.proofs.lemmas.List.{length-map}
 use Rattle.std.proofs.lemmas.List.Elements.{All-get_or, All-map}
 use Rattle.design.specs.Faults.{told}
 use Rattle.design.specs.Lists.{first}
-use Rattle.design.specs.Plans.{Plans}
+use Rattle.design.specs.Plans.{Plans, outcome}
 use Rattle.design.specs.declared.fault.Fault.{Fault}
 use Rattle.design.proofs.Firsts.{none_first}
 use Rattle.plain_survey.specs.States.{PlainRun}
 use Rattle.plain_survey.specs.Calls.{answer}
-use Rattle.plain_survey.specs.Reports.{Kind, Tally, is_finished, outcome, unlawful_at, unless, report_refusal, report_of, reported, report_answer, report_tally}
+use Rattle.plain_survey.specs.Reports.{Kind, Tally, is_finished, unlawful_at, unless, report_refusal, report_of, reported, report_answer, report_tally}
 use Rattle.plain_survey.specs.declared.report.Report.{Report}
 use Rattle.plain_survey.proofs.Reports.{finished_is, unrefused}
 use Rattle.response.proofs.Values.{told_value}

@@ -1,7 +1,7 @@
 -- What is printed in response to a frame file.
 use Rattle.std.specs.Prelude.{◌≡◌, ℕ, ℤ, cond, List, map, length, Some, None, Option, ◌==◌}
 use Rattle.design.specs.Faults.{Refusal}
-use Rattle.design.specs.Plans.{Plans, share_of}
+use Rattle.design.specs.Plans.{Plans, share_of, outcome}
 use Rattle.design.specs.declared.row.Row.{Row}
 use Rattle.methods.specs.Pivotal.{pivotal_plan}
 use Rattle.methods.specs.Systematic.{systematic_plan}
@@ -12,7 +12,7 @@ use Rattle.totals.specs.declared.table.Cell.{Cell}
 use Rattle.plain_survey.specs.States.{PlainRun, State}
 use Rattle.plain_survey.specs.Calls.{start_refusal, start_after}
 use Rattle.plain_survey.specs.Kinds.{money_kind, table_kind}
-use Rattle.plain_survey.specs.Reports.{outcome, reported, report_of}
+use Rattle.plain_survey.specs.Reports.{reported, report_of}
 use Rattle.frame_file.specs.declared.frame.Frame.{Frame}
 use Rattle.frame_file.specs.Faults.{FileRefusal, of_refusal}
 use Rattle.frame_file.specs.Refusals.{file_refusal}

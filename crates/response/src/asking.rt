@@ -1,10 +1,8 @@
-ghost use Rattle.std.specs.Prelude.{◌≡◌, ℕ, ◌++◌, ◌≤◌, length, string_bytes};
-ghost use Rattle.design.specs.declared.fraction.Fraction.{Fraction};
-ghost use Rattle.plain_survey.specs.Reports.{outcome};
+ghost use Rattle.std.specs.Prelude.{◌≡◌, ◌≤◌, length, string_bytes};
 ghost use Rattle.plain_survey.specs.States.{PlainRun};
 ghost use Rattle.response.specs.Failures.{Gets};
-ghost use Rattle.response.specs.Runs.{EndsAt, StandsAt, in_order, shares_now};
-ghost use Rattle.sample_file.specs.Text.{unit_lines};
+ghost use Rattle.response.specs.Reported.{AppendsTaken};
+ghost use Rattle.response.specs.Runs.{StandsAt, shares_now};
 ghost use Rattle.survey.specs.Means.{plans};
 
 use crate::failure::Failure;
@@ -37,7 +35,7 @@ pub(crate) fn write_taken<D: Design, S: Source>(
     shares: &[Fraction],
 ) -> Result<(), Failure>
     requires { length shares.now ≤ 1024 }
-    ensures { (r : PlainRun) (share : ℕ → Fraction) → EndsAt D.Design S.Source survey.now r → shares.now ≡ in_order (length r.list) share → Gets (λ _. string_bytes text.new ≡ string_bytes text.old ++ unit_lines (length r.list) (outcome r.tree) share) result }
+    ensures { AppendsTaken D.Design S.Source survey.now shares.now (string_bytes text.old) (string_bytes text.new) result }
 {
     for (k, share) in shares.iter().enumerate() {
         if survey.taken(k as u32)? {

@@ -1,11 +1,7 @@
-ghost use Rattle.std.specs.Prelude.{◌≡◌, ◌≤◌, All, IsTrue, length, string_bytes};
+ghost use Rattle.std.specs.Prelude.{◌≤◌, All, IsTrue, length};
 ghost use Rattle.frame_file.specs.Written.{UnitsFit};
-ghost use Rattle.plain_survey.specs.States.{PlainRun};
-ghost use Rattle.response.specs.Failures.{Gets};
-ghost use Rattle.response.specs.Reported.{BothTallied, Sampled, Tallied};
-ghost use Rattle.response.specs.Responses.{run_text};
-ghost use Rattle.response.specs.Runs.{EndsAt, prescribed_shares};
-ghost use Rattle.survey.specs.Means.{kind_of, plans};
+ghost use Rattle.response.specs.Reported.{GivesTallies, GivesTally, GivesText};
+ghost use Rattle.survey.specs.Means.{kind_of};
 
 use crate::asking::write_taken;
 use crate::columns::{amounts_of, cells_of};
@@ -28,7 +24,7 @@ pub(crate) fn tally<D: Design, S: Source, T: Total>(
     total: &mut T,
 ) -> Result<u32, Failure>
     requires { All (λ reading. IsTrue (T.is_lawful reading)) readings.now }
-    ensures { (r : PlainRun) → EndsAt D.Design S.Source survey.now r → length readings.now ≡ length r.list → Gets (λ scale. Tallied (kind_of T.Total) (plans D.Design survey.now) r readings.now scale (T.entries total.new)) result }
+    ensures { GivesTally D.Design S.Source (kind_of T.Total) survey.now readings.now (T.entries total.new) result }
 {
     let report = survey.report(readings, total)?;
     Ok(report.scale)
@@ -49,7 +45,7 @@ pub(crate) fn tallies_of<D: Design, S: Source>(
     frame: &Frame,
 ) -> Result<Tallies, Failure>
     requires { UnitsFit frame.now.units }
-    ensures { (r : PlainRun) → Sampled D.Design S.Source survey.now frame.now r → Gets (λ t. BothTallied (plans D.Design survey.now) frame.now r t.scale (⟦<Money as Total>⟧.entries t.money) (⟦<Table as Total>⟧.entries t.table)) result }
+    ensures { GivesTallies D.Design S.Source ⟦<Money as Total>⟧ ⟦<Table as Total>⟧ survey.now frame.now result }
 {
     let amounts = amounts_of(heap, frame)?;
     let mut money = Money::new();
@@ -73,7 +69,7 @@ pub(crate) fn text_of<D: Design, S: Source>(
 ) -> Result<String, Failure>
     requires few { length shares.now ≤ 1024 }
     requires fit { UnitsFit frame.now.units }
-    ensures { (r : PlainRun) → Sampled D.Design S.Source survey.now frame.now r → shares.now ≡ prescribed_shares (plans D.Design survey.now) r → Gets (λ text. string_bytes text ≡ run_text (plans D.Design survey.now) frame.now r) result }
+    ensures { GivesText D.Design S.Source survey.now frame.now shares.now result }
 {
     let tallies = tallies_of(heap, survey, frame)?;
     let mut text = String::new(heap);

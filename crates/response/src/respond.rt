@@ -28,10 +28,10 @@ fn sample_of(heap: Global, frame: &Frame) -> Result<String, Failure>
 }
 
 // The text to print: that of a sample, or the line of the refusal.
-fn printed(heap: Global, outcome: Result<String, Failure>) -> Result<String, AllocError>
-    ensures { IfOk result (λ text. IsPrinted outcome (string_bytes text)) }
+fn printed(heap: Global, sampled: Result<String, Failure>) -> Result<String, AllocError>
+    ensures { IfOk result (λ text. IsPrinted sampled (string_bytes text)) }
 {
-    match outcome {
+    match sampled {
         Ok(text) => Ok(text),
         Err(Failure::Refused(fault)) => {
             let mut line = String::new(heap);
@@ -47,8 +47,8 @@ fn respond_to(heap: Global, frame: &Frame) -> Result<String, AllocError>
     requires { Fits frame.now }
     ensures { IfOk result (λ text. PrintsFor frame.now (string_bytes text)) }
 {
-    let outcome = sample_of(heap, frame);
-    printed(heap, outcome)
+    let sampled = sample_of(heap, frame);
+    printed(heap, sampled)
 }
 
 /// The response to a file with these bytes.

@@ -1,5 +1,5 @@
 ghost use Rattle.std.specs.Prelude.{◌≡◌, ◌++◌, OnOk, string_bytes};
-ghost use Rattle.frame_file.specs.Faults.{published};
+ghost use Rattle.frame_file.specs.Faults.{numbered_file};
 ghost use Rattle.sample_file.specs.Text.{fault_line, report_text, scale_line, total_line, unit_line};
 
 use design::fraction::Fraction;
@@ -60,7 +60,7 @@ pub fn write_report(
 
 /// Appends the line of a refusal.
 pub fn write_fault(out: &mut String, fault: FileFault) -> Result<(), AllocError>
-    ensures { OnOk result (string_bytes out.new ≡ string_bytes out.old ++ fault_line (published fault)) }
+    ensures { OnOk result (string_bytes out.new ≡ string_bytes out.old ++ fault_line (numbered_file fault)) }
 {
     let number = fault.cause.number();
     let line = fault.line;

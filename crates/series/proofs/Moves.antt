@@ -9,17 +9,16 @@ use Rattle.std.proofs.lemmas.List.Sums.{fails_before_first}
 use Rattle.std.proofs.lemmas.Bool.{cases_lt, lt-ltb, false≢true}
 use Rattle.outcomes.specs.Trees.{Sample}
 use Rattle.outcomes.proofs.Trees.{lawful_ways}
-use Rattle.design.specs.Design.{Standing, no_run, in_run, Began, Stepped, SoundPlan, ways_of, below}
+use Rattle.design.specs.Design.{Standing, no_run, in_run, Began, Stepped, ways_of, below}
 use Rattle.design.specs.declared.fault.Fault.{Fault}
-use Rattle.design.specs.declared.row.Row.{Row}
-use Rattle.parts.specs.Copying.{Over, outcome_of, written}
-use Rattle.parts.specs.Running.{Tables, first_row_of, part_at, so_far, standing_of, run_from, NextChosen, at_stage, gone_on, with_taken, Moved, Loaded, Ready, NoneFrom, Present, Underway, is_chosen}
-use Rattle.design.specs.Plans.{Plans, nothing}
+use Rattle.parts.specs.Copying.{Over, outcome_of, overwritten}
+use Rattle.parts.specs.Running.{Tables, first_row_of, part_at, so_far, standing_of, run_from, NextChosen, at_stage, gone_on, with_taken, Undisturbed, Loaded, Ready, NoneFrom, Present, Underway, is_chosen}
+use Rattle.design.specs.Plans.{Plans, nothing, SoundPlans}
 use Rattle.parts.specs.Series.{plan_for}
 use Rattle.parts.proofs.Entering.{entered_part, Noted, noted}
 use Rattle.series.specs.Of.{SameList}
 
-pub moved_trans : {U : Type 0} (r : Result U Fault) (S : Type 0) (now mid old : Standing) → Moved r S now mid → mid ≡ old → Moved r S now old
+pub moved_trans : {U : Type 0} (r : Result U Fault) (S : Type 0) (now mid old : Standing) → Undisturbed r S now mid → mid ≡ old → Undisturbed r S now old
 moved_trans (Ok u) S now mid old m e = (m.0, m.1 ∙ e)
 moved_trans (Err f) S now mid old m e = m
 
@@ -61,23 +60,23 @@ pub run_fresh : (B : Plans) (v : Tables) (taken : List Bool) (n : ℕ) → taken
 run_fresh B v taken n e = ap (λ (u : Sample). run_from B v 0 u) (fun_ext (λ k. ap (λ (xs : List Bool). get_or xs k false) e ∙ none_taken n k))
 
 -- a step of the design, after which finished parts are left
-pub stepped_by : {U : Type 0} (r : Result U Fault) (S : Type 0) (now mid old : Standing) (d : ℕ) → Moved r S now mid → mid ≡ below old d → d < ways_of old → Stepped old d r now × S
+pub stepped_by : {U : Type 0} (r : Result U Fault) (S : Type 0) (now mid old : Standing) (d : ℕ) → Undisturbed r S now mid → mid ≡ below old d → d < ways_of old → Stepped old d r now × S
 stepped_by (Ok u) S now mid old d m e l = ((l, m.1 ∙ e), m.0)
 stepped_by (Err f) S now mid old d m e l = absurd m
 
 -- the next chosen part is begun
-pub enter_part : (B B' : Plans) (law : (list : List Row) (n : ℕ) → SoundPlan list (B list n)) (v : Tables) → Loaded B v → length v.taken ≡ length v.rows
+pub enter_part : (B B' : Plans) (law : SoundPlans B) (v : Tables) → Loaded B v → length v.taken ≡ length v.rows
     → length v.chosen + 1 ≡ length v.bounds → (from j : ℕ) → NextChosen v.chosen from j → NoneFrom v (first_row_of v from) → {U : Type 0} (x : Result U Fault) (st : Standing)
     → j < length v.chosen → Began (plan_for B (part_at v j)) x st → B' ≡ B → (I : Type 0) → I
-    → Moved x (Underway I B' (at_stage v j) st) (standing_of B' (at_stage v j) st) (run_from B v from (so_far v))
+    → Undisturbed x (Underway I B' (at_stage v j) st) (standing_of B' (at_stage v j) st) (run_from B v from (so_far v))
 enter_part B B' law v L flags all from j N none x st more begun e I i =
-    subst (λ (C : Plans). Moved x (Underway I C (at_stage v j) st) (standing_of C (at_stage v j) st) (run_from B v from (so_far v))) (sym e)
+    subst (λ (C : Plans). Undisturbed x (Underway I C (at_stage v j) st) (standing_of C (at_stage v j) st) (run_from B v from (so_far v))) (sym e)
     (entered_part B law v L flags all from j N none x st more begun I i)
 
 -- the first part is chosen, and the design has just begun on it
-pub enter_ready : (B : Plans) (law : (list : List Row) (n : ℕ) → SoundPlan list (B list n)) (v : Tables) (I : Type 0) (st : Standing) → Ready I B v st → length v.taken ≡ length v.rows
+pub enter_ready : (B : Plans) (law : SoundPlans B) (v : Tables) (I : Type 0) (st : Standing) → Ready I B v st → length v.taken ≡ length v.rows
     → length v.chosen + 1 ≡ length v.bounds → NoneFrom v 0 → is_chosen v 0 ≡ true
-    → Moved {U = Unit {0}} (Ok tt) (Underway I B (at_stage v 0) st) (standing_of B (at_stage v 0) st) (run_from B v 0 (so_far v))
+    → Undisturbed {U = Unit {0}} (Ok tt) (Underway I B (at_stage v 0) st) (standing_of B (at_stage v 0) st) (run_from B v 0 (so_far v))
 enter_ready B law v I st R flags all none is =
     let more = some v.chosen is in
     let N : NextChosen v.chosen 0 0 = record { low = omega arith; high = omega arith; passed = λ k p q. absurd (omega (arith, q)); found = λ m. is } in
@@ -91,14 +90,14 @@ enter_ready B law v I st R flags all none is =
 -- the present part, from the row `first` up to `past`, is finished
 pub passing : (B : Plans) (v : Tables) (I : Type 0) (taken : List Bool) (first past : ℕ) (st : Standing) → Underway I B v st → v.stage + 1 < length v.bounds
     → first ≡ first_row_of v v.stage → past ≡ first_row_of v (v.stage + 1) → ways_of st ≡ 0
-    → (I → Over st (past - first) → (k : ℕ) → get_or taken k false ≡ written (so_far v) first past (outcome_of st) k) → Noted B v taken st
+    → (I → Over st (past - first) → (k : ℕ) → get_or taken k false ≡ overwritten (so_far v) first past (outcome_of st) k) → Noted B v taken st
 passing B v I taken first past st U more f p over flags =
     by st U (subst (λ b. Present b I B v st) (lt-ltb (v.stage + 1) (length v.bounds) more) U.present) over
-    (subst (λ q. I → Over st (q - first_row_of v v.stage) → (k : ℕ) → get_or taken k false ≡ written (so_far v) (first_row_of v v.stage) q (outcome_of st) k) p
-    (subst (λ q. I → Over st (past - q) → (k : ℕ) → get_or taken k false ≡ written (so_far v) q past (outcome_of st) k) f flags))
+    (subst (λ q. I → Over st (q - first_row_of v v.stage) → (k : ℕ) → get_or taken k false ≡ overwritten (so_far v) (first_row_of v v.stage) q (outcome_of st) k) p
+    (subst (λ q. I → Over st (past - q) → (k : ℕ) → get_or taken k false ≡ overwritten (so_far v) q past (outcome_of st) k) f flags))
   where
     by : (st : Standing) → Underway I B v st → Present true I B v st → ways_of st ≡ 0
-        → (I → Over st (first_row_of v (v.stage + 1) - first_row_of v v.stage) → (k : ℕ) → get_or taken k false ≡ written (so_far v) (first_row_of v v.stage) (first_row_of v (v.stage + 1)) (outcome_of st) k)
+        → (I → Over st (first_row_of v (v.stage + 1) - first_row_of v v.stage) → (k : ℕ) → get_or taken k false ≡ overwritten (so_far v) (first_row_of v v.stage) (first_row_of v (v.stage + 1)) (outcome_of st) k)
         → Noted B v taken st
     by no_run U q z h = absurd q
     by (in_run r) U q z h =

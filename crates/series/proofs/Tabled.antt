@@ -5,7 +5,7 @@ use Rattle.parts.specs.Bounds.{Rising}
 use Rattle.parts.specs.Running.{all_parts, sample_of, first_row_of}
 use Rattle.parts.proofs.Places.{cut-length, rising_at, rising_known}
 use Rattle.series.specs.Tables.{tables}
-use Rattle.series.specs.declared.table.Table.{Table}
+use Rattle.series.specs.declared.table.PartTable.{PartTable}
 
 pub shifted : (a b n : ℕ) → b + 1 ≡ n → ltb a b ≡ ltb (a + 1) n
 shifted a b n e = by (cases_lt a b)
@@ -14,7 +14,7 @@ shifted a b n e = by (cases_lt a b)
     by (inl l) = lt-ltb a b l ∙ sym (lt-ltb (a + 1) n (omega arith))
     by (inr l) = le-ltb a b l ∙ sym (le-ltb (a + 1) n (omega arith))
 
-module _ (t : Table) where
+module _ (t : PartTable) where
   pub rising : Rising (tables t).bounds (length (tables t).rows)
   rising = rising_known t.bounds (length t.rows) t.bounds_rise
 

@@ -1,15 +1,14 @@
 -- The answers of a design that is tried on a part.
 use Rattle.std.proofs.Common.{◌≡◌, ℕ, ◌+◌, ◌-◌, ◌<◌, List, length, get_or, true, is_ok, Ok, Err, Result, sym, subst}
 use Rattle.std.proofs.lemmas.Bool.{false≢true}
-use Rattle.design.specs.Design.{Plan, Standing, Began, SoundPlan}
+use Rattle.design.specs.Design.{Plan, Standing, Began}
 use Rattle.design.specs.Faults.{Answers}
 use Rattle.design.specs.declared.fault.Fault.{Fault}
 use Rattle.design.specs.declared.fraction.Fraction.{Fraction}
-use Rattle.design.specs.declared.row.Row.{Row}
 use Rattle.parts.specs.Bounds.{Rising}
-use Rattle.parts.specs.Copying.{Fresh, written}
+use Rattle.parts.specs.Copying.{Fresh, overwritten}
 use Rattle.parts.specs.Running.{Tables, all_parts, first_row_of, part_at, no_share, Ready}
-use Rattle.design.specs.Plans.{Plans, share_of}
+use Rattle.design.specs.Plans.{Plans, share_of, SoundPlans}
 use Rattle.parts.specs.Series.{plan_for, part_refusal}
 use Rattle.parts.specs.Trying.{Tried, TriedFrom, with_shares}
 use Rattle.parts.proofs.Trying.{tried_part, trial_end}
@@ -19,15 +18,15 @@ begun_ok (Ok u) a st h b = (u, b)
 begun_ok (Err e) a st h b = absurd (false≢true (sym h))
 
 -- the design was begun on part j, which goes from the row `first` up to `past`
-pub tried_by : {U V : Type 0} (u : U) (x : V) (B : Plans) (law : (list : List Row) (n : ℕ) → SoundPlan list (B list n)) (v : Tables) → Rising v.bounds (length v.rows)
+pub tried_by : {U V : Type 0} (u : U) (x : V) (B : Plans) (law : SoundPlans B) (v : Tables) → Rising v.bounds (length v.rows)
     → (j first past : ℕ) (shares : List Fraction) (st : Standing) → j + 1 < length v.bounds → first ≡ first_row_of v j → past ≡ first_row_of v (j + 1)
     → Began {U = U} (plan_for B (part_at v j)) (Ok u) st
-    → ((a : Plan) → Fresh a st (past - first) → (k : ℕ) → get_or shares k no_share ≡ written (λ i. get_or v.shares i no_share) first past (share_of a) k)
+    → ((a : Plan) → Fresh a st (past - first) → (k : ℕ) → get_or shares k no_share ≡ overwritten (λ i. get_or v.shares i no_share) first past (share_of a) k)
     → Tried {U = V} (plan_for B (part_at v j)) v j shares st (Ok x)
 tried_by u x B law v rise j first past shares st place f p b h =
     tried_part B v rise u x law j shares st place b
-    (subst (λ q. (a : Plan) → Fresh a st (q - first_row_of v j) → (k : ℕ) → get_or shares k no_share ≡ written (λ i. get_or v.shares i no_share) (first_row_of v j) q (share_of a) k) p
-    (subst (λ q. (a : Plan) → Fresh a st (past - q) → (k : ℕ) → get_or shares k no_share ≡ written (λ i. get_or v.shares i no_share) q past (share_of a) k) f h))
+    (subst (λ q. (a : Plan) → Fresh a st (q - first_row_of v j) → (k : ℕ) → get_or shares k no_share ≡ overwritten (λ i. get_or v.shares i no_share) (first_row_of v j) q (share_of a) k) p
+    (subst (λ q. (a : Plan) → Fresh a st (past - q) → (k : ℕ) → get_or shares k no_share ≡ overwritten (λ i. get_or v.shares i no_share) q past (share_of a) k) f h))
 
 -- what is tried does not rest on the shares that are there
 pub tried_as : {U : Type 0} (B B' : Plans) (v w : Tables) (j : ℕ) (shares shares' : List Fraction) (st : Standing) (r : Result U Fault) → B' ≡ B → w ≡ with_shares v shares

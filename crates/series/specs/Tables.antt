@@ -3,9 +3,9 @@ use Rattle.std.specs.Prelude.{ℕ, ◌-◌, Bool, true, false, List, length, rep
 use Rattle.design.specs.declared.row.Row.{Row}
 use Rattle.parts.specs.Parts.{bounds}
 use Rattle.parts.specs.Running.{Tables, no_share}
-use Rattle.series.specs.declared.table.Table.{Table}
+use Rattle.series.specs.declared.table.PartTable.{PartTable}
 
-abbrev pub tables : Table → Tables
+abbrev pub tables : PartTable → Tables
 tables t = record {
   rows = t.rows;
   bounds = t.bounds;

@@ -4,7 +4,7 @@ ghost use Rattle.series.specs.Of.{IsIntact, IsNew, SameList, plans, standing, ta
 ghost use Rattle.series.specs.Calls.{noted_share};
 
 use crate::Series;
-use crate::table::Table;
+use crate::table::PartTable;
 use design::design::Design;
 use design::fault::{Fault, Reason};
 use design::fraction::Fraction;
@@ -17,7 +17,7 @@ impl<D: Design> Series<D> {
         D: Drop,
         ensures { IfOk result (IsNew below) }
     {
-        let table = Table::new(heap)?;
+        let table = PartTable::new(heap)?;
         Ok(Series { below, table })
     }
 
@@ -35,7 +35,7 @@ impl<D: Design> Series<D> {
     /// Goes on to the subtree of the throw d.
     pub fn step(&mut self, d: u32) -> Result<(), Fault>
         ensures stepped { IsIntact D.Design self.old → Stepped (standing D.Design self.old) d result (standing D.Design self.new) }
-        ensures whole { IsIntact D.Design self.old → IsIntact D.Design self.new }
+        ensures intact { IsIntact D.Design self.old → IsIntact D.Design self.new }
         ensures same { SameList (tables_of self.old) (tables_of self.new) }
         ensures settings { plans D.Design self.new ≡ plans D.Design self.old }
     {

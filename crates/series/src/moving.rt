@@ -1,25 +1,24 @@
-ghost use Rattle.std.specs.Prelude.{◌≡◌, ℕ, ◌-◌, ◌<◌, ◌≤◌, false, length, slice_index_or};
-ghost use Rattle.parts.specs.Copying.{Over, outcome_of, written};
-ghost use Rattle.parts.specs.Running.{Moved, NextChosen, NoneFrom, run_from, so_far};
+ghost use Rattle.std.specs.Prelude.{◌≡◌, ◌-◌, ◌<◌, ◌≤◌, false, length};
+ghost use Rattle.parts.specs.Running.{NextChosen, NoneFrom, so_far};
 ghost use Rattle.design.specs.Plans.{nothing};
-ghost use Rattle.series.specs.Of.{IsIntact, IsReady, IsUnderway, SameList, plans, standing, tables_of};
-ghost use Rattle.series.specs.Moving.{CanEnter, Finished, Chosen, with_chosen};
+ghost use Rattle.series.specs.Of.{IsReady, IsUnderway, SameList, plans, standing, tables_of};
+ghost use Rattle.series.specs.Moving.{CanEnter, ChoosesTaken, ComesIntact, ComesUnderway, Finished, run_on, with_chosen};
+ghost use Rattle.series.specs.Noting.{NotesTaken};
 
 use crate::Series;
 use bounded::BoundedVec;
-use design::check::MOST_ROWS;
 use design::design::Design;
 use design::fault::Fault;
+use design::limits::MOST_ROWS;
 use std::ops::Range;
 
-// Notes which units of a finished run are taken, in these places of the flags. The clauses on the places are those of `write`: a type of
-// such ranges could be made only under the same.
+// Notes which units of a finished run are taken, in these places of the flags.
 fn note_taken<D: Design>(design: &D, flags: &mut BoundedVec<bool, MOST_ROWS>, places: Range<usize>)
     requires forward { places.start ≤ places.end }
     requires within { places.end ≤ length flags.old }
     requires few { length flags.old ≤ 1024 }
     ensures len { length flags.new ≡ length flags.old }
-    ensures noted { D.Design.intact design.now → Over (D.Design.tree design.now) (places.end - places.start) → (k : ℕ) → slice_index_or flags.new k false ≡ written (λ i. slice_index_or flags.old i false) places.start places.end (outcome_of (D.Design.tree design.now)) k }
+    ensures noted { NotesTaken D.Design design.now places.start places.end flags.old flags.new }
 {
     flags.write(places, |k| design.taken(k).unwrap_or(false));
 }
@@ -42,7 +41,7 @@ impl<D: Design> Series<D> {
         ensures forward { from ≤ self.new.table.stage }
         ensures same { SameList (tables_of self.old) (tables_of self.new) }
         ensures settings { plans D.Design self.new ≡ plans D.Design self.old }
-        ensures entered { CanEnter D.Design self.old from → Moved result (IsUnderway D.Design self.new) (standing D.Design self.new) (run_from (plans D.Design self.old) (tables_of self.old) from (so_far (tables_of self.old))) }
+        ensures entered { CanEnter D.Design self.old from → ComesUnderway D.Design self.new result (run_on D.Design self.old from (so_far (tables_of self.old))) }
     {
         let j = next_set(self.table.chosen.as_slice(), from);
         self.table.stage = j;
@@ -60,7 +59,7 @@ impl<D: Design> Series<D> {
         ensures forward { self.old.table.stage < self.new.table.stage }
         ensures same { SameList (tables_of self.old) (tables_of self.new) }
         ensures settings { plans D.Design self.new ≡ plans D.Design self.old }
-        ensures passed { IsUnderway D.Design self.old → Finished D.Design self.old → Moved result (IsUnderway D.Design self.new) (standing D.Design self.new) (standing D.Design self.old) }
+        ensures passed { IsUnderway D.Design self.old → Finished D.Design self.old → ComesUnderway D.Design self.new result (standing D.Design self.old) }
     {
         let j = self.table.stage;
         let rows = self.table.rows_of(j);
@@ -72,7 +71,7 @@ impl<D: Design> Series<D> {
     pub(crate) fn settle(&mut self) -> Result<(), Fault>
         ensures same { SameList (tables_of self.old) (tables_of self.new) }
         ensures settings { plans D.Design self.new ≡ plans D.Design self.old }
-        ensures settled { IsUnderway D.Design self.old → Moved result (IsIntact D.Design self.new) (standing D.Design self.new) (standing D.Design self.old) }
+        ensures settled { IsUnderway D.Design self.old → ComesIntact D.Design self.new result (standing D.Design self.old) }
     {
         while self.table.has_part() && self.below.ways() == 0 {
             self.pass_on()?;
@@ -82,7 +81,7 @@ impl<D: Design> Series<D> {
 
     /// Chooses the parts that the finished run of this design has taken; only the choice changes.
     pub fn choose<A: Design>(&mut self, design: &A)
-        ensures chosen { A.Design.intact design.now → Over (A.Design.tree design.now) (length (tables_of self.old).chosen) → Chosen (outcome_of (A.Design.tree design.now)) (tables_of self.old) (tables_of self.new) }
+        ensures chosen { ChoosesTaken A.Design design.now self.old self.new }
         ensures same { tables_of self.new ≡ with_chosen (tables_of self.old) (tables_of self.new).chosen }
         ensures below { self.new.below ≡ self.old.below }
     {
@@ -94,7 +93,7 @@ impl<D: Design> Series<D> {
     fn enter_first(&mut self) -> Result<(), Fault>
         ensures same { SameList (tables_of self.old) (tables_of self.new) }
         ensures settings { plans D.Design self.new ≡ plans D.Design self.old }
-        ensures entered { IsReady D.Design self.old → NoneFrom (tables_of self.old) 0 → Moved result (IsUnderway D.Design self.new) (standing D.Design self.new) (run_from (plans D.Design self.old) (tables_of self.old) 0 (so_far (tables_of self.old))) }
+        ensures entered { IsReady D.Design self.old → NoneFrom (tables_of self.old) 0 → ComesUnderway D.Design self.new result (run_on D.Design self.old 0 (so_far (tables_of self.old))) }
     {
         self.table.stage = 0;
         self.table.moved = false;
@@ -109,7 +108,7 @@ impl<D: Design> Series<D> {
     pub fn start(&mut self) -> Result<(), Fault>
         ensures same { SameList (tables_of self.old) (tables_of self.new) }
         ensures settings { plans D.Design self.new ≡ plans D.Design self.old }
-        ensures started { IsReady D.Design self.old → Moved result (IsIntact D.Design self.new) (standing D.Design self.new) (run_from (plans D.Design self.old) (tables_of self.old) 0 nothing) }
+        ensures started { IsReady D.Design self.old → ComesIntact D.Design self.new result (run_on D.Design self.old 0 nothing) }
     {
         let units = self.table.units();
         self.table.taken.fill(units, false);

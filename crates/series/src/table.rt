@@ -2,8 +2,8 @@ ghost use Rattle.std.specs.Prelude.{◌≡◌, ◌+◌, ◌<◌, ◌≤◌, leng
 ghost use Rattle.parts.specs.Bounds.{Rising};
 
 use bounded::BoundedVec;
-use design::check::MOST_ROWS;
 use design::fraction::Fraction;
+use design::limits::MOST_ROWS;
 use design::row::Row;
 
 mod making;
@@ -15,10 +15,9 @@ const MOST_BOUNDS: usize = MOST_ROWS + 1;
 /// A list cut into parts, and how far a design has come that runs on the chosen ones in turn. By units: the rows, the prescribed
 /// shares, and which units of the parts behind are taken. By parts: the first rows, and at last the row past the list; the sample sizes;
 /// and which parts are chosen. The stage is the present part, or the number of parts where all are behind, and `moved` says whether a step
-/// was made since the design began there. They are lists of their own, as a part is handed out as a slice of rows, flags of units and of
-/// parts are noted by one function, and first rows are one more than parts.
+/// was made since the design began there.
 #[derive(Drop)]
-pub struct Table {
+pub struct PartTable {
     pub(crate) rows: BoundedVec<Row, MOST_ROWS>,
     pub(crate) shares: BoundedVec<Fraction, MOST_ROWS>,
     pub(crate) taken: BoundedVec<bool, MOST_ROWS>,
@@ -27,7 +26,7 @@ pub struct Table {
     pub(crate) chosen: BoundedVec<bool, MOST_ROWS>,
     pub(crate) stage: usize,
     pub(crate) moved: bool,
-    // Said again, as what a type with a model keeps is not seen through its view.
+    // Repeated here, as who holds a BoundedVec sees its items only, and not its invariant.
     ghost rows_few: { length rows ≤ 1024 },
     ghost shares_all: { length shares ≡ length rows },
     ghost taken_all: { length taken ≡ length rows },

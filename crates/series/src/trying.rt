@@ -1,23 +1,20 @@
-ghost use Rattle.std.specs.Prelude.{◌≡◌, ℕ, ◌+◌, ◌-◌, ◌^◌, ◌<◌, ◌≤◌, length, IfErr, Ok, Err, slice_index_or};
-ghost use Rattle.design.specs.Design.{Plan};
+ghost use Rattle.std.specs.Prelude.{◌≡◌, ◌+◌, ◌-◌, ◌<◌, ◌≤◌, length, Ok};
 ghost use Rattle.design.specs.Faults.{Answers};
-ghost use Rattle.parts.specs.Copying.{Fresh, written};
-ghost use Rattle.parts.specs.Running.{all_parts, no_share, part_at};
-ghost use Rattle.design.specs.Plans.{share_of};
+ghost use Rattle.parts.specs.Running.{all_parts, part_at};
 ghost use Rattle.parts.specs.Series.{part_refusal, plan_for};
 ghost use Rattle.parts.specs.Trying.{Tried, with_shares};
 ghost use Rattle.series.specs.Of.{IsReady, plans, tables_of};
+ghost use Rattle.series.specs.Noting.{NotesShares};
 
 use crate::Series;
 use bounded::BoundedVec;
-use design::check::MOST_ROWS;
 use design::design::Design;
 use design::fault::Fault;
 use design::fraction::Fraction;
+use design::limits::MOST_ROWS;
 use std::ops::Range;
 
-// Notes the shares of these rows, on which the design below has just begun. Its clauses on the rows are those of `write`, as `note_taken`
-// has them.
+// Notes the shares of these rows, on which the design below has just begun.
 fn note_shares<D: Design>(
     below: &D,
     shares: &mut BoundedVec<Fraction, MOST_ROWS>,
@@ -27,7 +24,7 @@ fn note_shares<D: Design>(
     requires within { rows.end ≤ length shares.old }
     requires few { length shares.old ≤ 1024 }
     ensures len { length shares.new ≡ length shares.old }
-    ensures noted { D.Design.intact below.now → (a : Plan) → Fresh a (D.Design.tree below.now) (rows.end - rows.start) → (k : ℕ) → slice_index_or shares.new k no_share ≡ written (λ i. slice_index_or shares.old i no_share) rows.start rows.end (share_of a) k }
+    ensures noted { NotesShares D.Design below.now rows.start rows.end shares.old shares.new }
 {
     let none = Fraction::new(0, 0);
     shares.write(rows, |k| below.share(k).unwrap_or(none));
@@ -38,7 +35,7 @@ impl<D: Design> Series<D> {
     fn try_part(&mut self, j: usize) -> Result<(), Fault>
         requires { j < length (tables_of self.old).chosen }
         ensures tried { Tried (plan_for (plans D.Design self.old) (part_at (tables_of self.old) j)) (tables_of self.old) j (tables_of self.new).shares (D.Design.tree self.new.below) result }
-        ensures whole { D.Design.intact self.new.below }
+        ensures intact { D.Design.intact self.new.below }
         ensures same { tables_of self.new ≡ with_shares (tables_of self.old) (tables_of self.new).shares }
         ensures settings { plans D.Design self.new ≡ plans D.Design self.old }
     {

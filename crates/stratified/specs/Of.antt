@@ -26,7 +26,7 @@ pub record Allotted {D : Type 0} (takes : List ℕ) (old new : Stratified D) : T
 abbrev pub cut_strata : List ℕ → List Row → Tables
 cut_strata takes list = asked (newly_cut same_stratum list) takes
 
--- the design below, the takes and the run stay
+-- the design below, the takes and the flag stay; the tables of the list may change
 pub record SameLayer {D : Type 0} (old new : Stratified D) : Type 0 where
   pub below : new.strata.below ≡ old.strata.below
   pub takes : new.takes ≡ old.takes

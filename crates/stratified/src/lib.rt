@@ -27,7 +27,7 @@ mod takes;
 pub struct Stratified<D: Design> {
     strata: Series<D>,
     takes: Takes,
-    // Whether the series holds a run. It is no Option of a series, as its memory stays from one run to the next.
+    // Whether the series holds a run.
     running: bool,
 }
 
@@ -69,7 +69,7 @@ impl<D: Design> Stratified<D> {
         if !self.strata.table.ask(self.takes.as_slice()) {
             return Err(Fault::of(Reason::StrataNotTakes));
         }
-        if self.takes.total() != n as u64 {
+        if self.takes.total() != u64::from(n) {
             return Err(Fault::of(Reason::TakesNotSample));
         }
         Ok(())
@@ -85,7 +85,10 @@ impl<D: Design> Design for Stratified<D> {
 
     ghost sound = { λ s. stratified_sound (D.plan s.strata.below) (D.sound s.strata.below) (takes_of s) };
 
-    ghost exact = { λ s. exact_if s.running (IsIntact D.Design.own s.strata) (standing D.Design.own s.strata) (λ i. exact_now (D.plan s.strata.below) (D.sound s.strata.below) (tables_of s.strata) (D.intact s.strata.below) (D.tree s.strata.below) i.underway (D.exact s.strata.below)) };
+    ghost exact = { λ s.
+        let below = s.strata.below in
+        exact_if s.running (IsIntact D.Design.own s.strata) (standing D.Design.own s.strata)
+        (λ i. exact_now (D.plan below) (D.sound below) (tables_of s.strata) (D.intact below) (D.tree below) i.underway (D.exact below)) };
 
     fn begin(&mut self, list: &[Row], n: u32) -> Result<(), Fault> {
         self.running = false;

@@ -4,10 +4,8 @@ ghost use Rattle.layers.specs.Stratified.{allot_refusal, total_take};
 
 use bounded::BoundedVec;
 use design::fault::{Fault, Reason};
+use design::limits::MOST_TAKES;
 use std::alloc::{AllocError, Global};
-
-/// The most takes that a table may have.
-pub const MOST_TAKES: usize = 64;
 
 /// A table of takes: the sample size of each stratum, in order.
 #[derive(Drop)]
@@ -22,8 +20,7 @@ fn check_takes(takes: &[u32]) -> Result<(), Fault>
     if takes.is_empty() || takes.len() > MOST_TAKES {
         return Err(Fault::of(Reason::TakesOutOfRange));
     }
-    let zero = takes.contains(&0);
-    if zero {
+    if takes.contains(&0) {
         return Err(Fault::of(Reason::TakeZero));
     }
     Ok(())
@@ -34,7 +31,7 @@ fn total_of(takes: &[u32]) -> u64
     requires { length takes.now ≤ 64 }
     ensures { result ≡ total_take takes.now }
 {
-    takes.iter().map(|take| *take as u64).sum()
+    takes.iter().map(|take| u64::from(*take)).sum()
 }
 
 impl Takes {

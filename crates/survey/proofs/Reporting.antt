@@ -5,14 +5,14 @@ use Rattle.outcomes.specs.Sums.{count}
 use Rattle.outcomes.specs.Trees.{Sample, finished}
 use Rattle.design.specs.Lists.{first}
 use Rattle.design.specs.Design.{Standing}
-use Rattle.design.specs.Plans.{Plans, numerator_of, denominator_of}
+use Rattle.design.specs.Plans.{Plans, numerator_of, denominator_of, outcome}
 use Rattle.design.specs.declared.fault.Fault.{Fault}
 use Rattle.weights.specs.Scale.{design_weight}
 use Rattle.weights.specs.Of.{scale_in, weights_in}
 use Rattle.weights.specs.declared.Weights.{Weights}
 use Rattle.plain_survey.specs.States.{PlainRun}
 use Rattle.plain_survey.specs.Calls.{answer, weight_in}
-use Rattle.plain_survey.specs.Reports.{has_outcome, Kind, Tally, unlawful_at, row_at, added, outcome, report_of, unless, reported, report_answer, report_tally}
+use Rattle.plain_survey.specs.Reports.{has_outcome, Kind, Tally, unlawful_at, row_of_reading, added, report_of, unless, reported, report_answer, report_tally}
 use Rattle.plain_survey.specs.Laws.{run_at}
 use Rattle.plain_survey.proofs.Reports.{added_same, finished_is, unrefused, light}
 use Rattle.survey.specs.Adding.{Finished, Addable, Adds}
@@ -48,8 +48,8 @@ given kind P I st w true (Some r) readings old new result h ended many lawful ad
       number = a.number ∙ ap Ok number;
       told = ap (λ f. answer f (reported P r)) clear ∙ ap (λ x. Ok (record { scale = x; taken = count units u })) (sym h.weighed.scale_is);
       left =
-          ap (λ es. record { entries = es; additions = new.additions }) (a.entries ∙ ap (λ x. added x u (slice_index (weights_in w)) (row_at kind readings) (replicate kind.width (pos 0))) long
-          ∙ added_same units u (slice_index (weights_in w)) (weight_in p r.list) (row_at kind readings) (replicate kind.width (pos 0)) same)
-          ∙ ap (λ x. record { entries = added units u (weight_in p r.list) (row_at kind readings) (replicate kind.width (pos 0)); additions = x }) (a.additions ∙ number)
+          ap (λ es. record { entries = es; additions = new.additions }) (a.entries ∙ ap (λ x. added x u (slice_index (weights_in w)) (row_of_reading kind readings) (replicate kind.width (pos 0))) long
+          ∙ added_same units u (slice_index (weights_in w)) (weight_in p r.list) (row_of_reading kind readings) (replicate kind.width (pos 0)) same)
+          ∙ ap (λ x. record { entries = added units u (weight_in p r.list) (row_of_reading kind readings) (replicate kind.width (pos 0)); additions = x }) (a.additions ∙ number)
           ∙ ap (λ f. unless f (report_of kind P r u readings) old) (sym clear);
     }

@@ -24,5 +24,5 @@ pub judged : {D : Type 0} (G : Design.Ghosts D) (design : D) (p : Plan) (list : 
 judged G design (refuses f) list w result b i s h = absurd b
 judged G design (accepts num run) list w result b i s h = record {
   stands = b ∙ ap (λ n. in_run (record { tree = run.tree; units = n; denominator = run.denominator })) s.units_listed;
-  answers = h list num run (record { whole = i; stands = b; sound = s; all = refl });
+  answers = h list num run (record { intact = i; stands = b; sound = s; all = refl });
 }

@@ -8,7 +8,7 @@ use Rattle.design.specs.Design.{Run, Standing, in_run}
 use Rattle.design.specs.declared.design.Design as Design
 use Rattle.design.specs.declared.fault.Fault.{Fault}
 use Rattle.totals.specs.declared.total.Total as Total
-use Rattle.plain_survey.specs.Reports.{Kind, Tally, unlawful_at, row_at, added}
+use Rattle.plain_survey.specs.Reports.{Kind, Tally, unlawful_at, row_of_reading, added}
 
 -- the run has come to the outcome u, of so many units; I says that the design is intact
 pub record Finished (I : Type 0) (standing : Standing) (units : ℕ) (u : Sample) : Type 0 where
@@ -26,7 +26,7 @@ pub record Addable {R : Type 0} (kind : Kind R) (weights : List ℕ) (readings :
 -- the answer is the number of units taken, and the total is cleared and has weight and reading of each of them
 pub record Adds {R : Type 0} (kind : Kind R) (weights : List ℕ) (readings : List R) (u : Sample) (new : Tally) (result : Result ℕ Fault) : Type 0 where
   pub number : result ≡ Ok (count (length readings) u)
-  pub entries : new.entries ≡ added (length readings) u (slice_index weights) (row_at kind readings) (replicate kind.width (pos 0))
+  pub entries : new.entries ≡ added (length readings) u (slice_index weights) (row_of_reading kind readings) (replicate kind.width (pos 0))
   pub additions : new.additions ≡ count (length readings) u
 
 -- the same of the outcome to which the design has come, if it has, and of a total as it is left

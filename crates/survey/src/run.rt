@@ -1,7 +1,7 @@
 ghost use Rattle.std.specs.Prelude.{◌≡◌, IfOk};
 ghost use Rattle.design.specs.Faults.{told};
 ghost use Rattle.plain_survey.specs.Calls.{start_answer, start_after, draw_answer, draw_after};
-ghost use Rattle.plain_survey.specs.Laws.{StartsFair};
+ghost use Rattle.plain_survey.specs.Laws.{FairStart};
 ghost use Rattle.survey.specs.Means.{ComesTo, FewWays, Follows, Tells, plans, words};
 
 use crate::survey::Survey;
@@ -16,7 +16,7 @@ impl<D: Design, S: Source> Survey<D, S> {
     pub fn start(&mut self, list: &[Row], n: u32) -> Result<(), Fault>
         ensures answer { told result ≡ start_answer (plans D.Design self.old list.now n) list.now }
         ensures after { ComesTo D.Design S.Source self.old self.new (start_after (plans D.Design self.old list.now n) list.now n (words S.Source self.old)) }
-        ensures fair { IfOk result (λ _. StartsFair (plans D.Design self.old list.now n) list.now) }
+        ensures fair { IfOk result (λ _. FairStart (plans D.Design self.old list.now n) list.now) }
         ensures settings { plans D.Design self.new ≡ plans D.Design self.old }
     {
         self.running = false;

@@ -30,12 +30,12 @@ mod tests {
             ([31_621, 2, 1], Ok(()), true),
             (
                 [31_622, 2, 1],
-                Err(Fault::at(Reason::WeightTooLarge, 2)),
+                Err(Fault::at(Reason::DesignWeightTooLarge, 2)),
                 false,
             ),
             (
                 [31_622, 2, 3],
-                Err(Fault::at(Reason::WeightTooLarge, 1)),
+                Err(Fault::at(Reason::DesignWeightTooLarge, 1)),
                 false,
             ),
         ];
@@ -64,7 +64,7 @@ mod tests {
         list[1].size = 31_622;
         assert_eq!(rt;
             (survey.start(&list, 2), survey.share(3).is_ok()),
-            (Err(Fault::at(Reason::WeightTooLarge, 3)), false)
+            (Err(Fault::at(Reason::DesignWeightTooLarge, 3)), false)
         );
         list[2].size = 0;
         assert_eq!(rt;
@@ -81,7 +81,7 @@ mod tests {
             Reason::NoSuchUnit,
             Reason::Dry,
             Reason::ScaleTooLarge,
-            Reason::WeightTooLarge,
+            Reason::DesignWeightTooLarge,
             Reason::NoFinishedRun,
             Reason::ReadingsNotAsUnits,
             Reason::UnlawfulReading,

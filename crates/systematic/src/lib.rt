@@ -34,14 +34,12 @@ fn strike(units: &mut Holdings, r: u32)
 {
     let total = units.total();
     let mut sum: u64 = 0;
-    let mut point = r as u64;
-    // By number: units lent as a slice would need a clause on what is left when the loan ends, and a closure over all of them one on the
-    // chain of its sums and points.
+    let mut point = u64::from(r);
     for i in 0..units.units() {
-        sum += units.get(i) as u64;
+        sum += u64::from(units.get(i));
         if point < sum {
             units.set(i, total);
-            point += total as u64;
+            point += u64::from(total);
         } else {
             units.set(i, 0);
         }

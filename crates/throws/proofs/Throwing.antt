@@ -5,7 +5,8 @@ use Rattle.std.proofs.lemmas.Bool.{ltb-false, le-ltb, eq-eqb, ne_eqb, cond-true}
 use Rattle.outcomes.specs.Sums.{sum, count}
 use Rattle.outcomes.proofs.Sums.{sum_same, sum_single, sum_split}
 use Rattle.design.specs.Faults.{refusal}
-use Rattle.throws.specs.Words.{limit, serving, remainder, rest, in_range, thrown, AllFrom, DryExactly, EachAsOften}
+use Rattle.throws.specs.Words.{limit, serving, remainder, rest, in_range, thrown}
+use Rattle.throws.specs.Laws.{AllFrom, DryExactly, EachAsOften}
 
 -- ---- an answer is below the ways
 remainder_below : (m : ℕ) (ws : List ℕ) (d : ℕ) → 0 < m → remainder m ws ≡ Ok d → d < m

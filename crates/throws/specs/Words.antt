@@ -1,6 +1,5 @@
 -- Waiting words, and throws made of them.
-use Rattle.std.specs.Prelude.{◌≡◌, ℕ, zero, suc, ◌*◌, ◌/◌, ◌%◌, ◌^◌, ◌<◌, ◌≤◌, Bool, true, cond, ◌&&◌, List, [], ◌∷◌, Some, None, Ok, Err, Option, Result, ◌==◌, bit_xor, nat_eq, nat_le, nat_lt}
-use Rattle.outcomes.specs.Sums.{count}
+use Rattle.std.specs.Prelude.{◌≡◌, ℕ, zero, suc, ◌*◌, ◌/◌, ◌%◌, ◌^◌, Bool, cond, ◌&&◌, List, [], ◌∷◌, Some, None, Ok, Err, Option, Result, ◌==◌, bit_xor, nat_le, nat_lt}
 use Rattle.design.specs.Faults.{Refusal, refusal}
 
 -- ---- sources
@@ -57,19 +56,3 @@ thrown m ws = cond (in_range m) (remainder m (serving (limit m) ws)) (Err (refus
 
 abbrev pub left : ℕ → List ℕ → List ℕ
 left m ws = cond (in_range m) (rest (serving (limit m) ws)) ws
-
--- ---- laws
--- every word is at least the limit
-abbrev pub AllFrom : ℕ → List ℕ → Type 0
-AllFrom limit [] = Unit {0}
-AllFrom limit (w ∷ ws) = (limit ≤ w) × AllFrom limit ws
-
--- a throw is dry exactly where every waiting word is at least the limit, and then none waits
-abbrev pub DryExactly : Type 0
-DryExactly = (m : ℕ) (ws : List ℕ) → in_range m ≡ true
-    → (thrown m ws ≡ Err (refusal 21) → AllFrom (limit m) ws)
-    × (AllFrom (limit m) ws → (thrown m ws ≡ Err (refusal 21)) × (left m ws ≡ []))
-
--- of the words below the limit, each answer d below m is the remainder of equally many
-abbrev pub EachAsOften : Type 0
-EachAsOften = (m d : ℕ) → d < m → count (limit m) (λ w. nat_eq (w % m) d) ≡ 2 ^ 32 / m

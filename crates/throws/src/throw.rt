@@ -1,10 +1,11 @@
 ghost use Rattle.std.specs.Prelude.{◌≡◌};
 ghost use Rattle.design.specs.Faults.{told};
-ghost use Rattle.throws.specs.Words.{thrown, left, DryExactly, EachAsOften};
+ghost use Rattle.throws.specs.Words.{thrown, left};
+ghost use Rattle.throws.specs.Laws.{DryExactly, EachAsOften};
 
 use crate::source::Source;
-use design::check::LARGEST_TOTAL;
 use design::fault::{Fault, Reason};
+use design::limits::LARGEST_TOTAL;
 
 /// A throw with m ways: the first waiting word below the largest multiple of m that 32 bits hold, by its remainder.
 /// The words up to it are taken.
@@ -15,9 +16,10 @@ pub fn throw<S: Source>(source: &mut S, m: u32) -> Result<u32, Fault>
     if m == 0 || m > LARGEST_TOTAL {
         return Err(Fault::of(Reason::WaysOutOfRange));
     }
-    let limit = (1u64 << 32) / m as u64 * m as u64;
+    let ways = u64::from(m);
+    let limit = (1u64 << 32) / ways * ways;
     while let Some(w) = source.word() {
-        if (w as u64) < limit {
+        if u64::from(w) < limit {
             return Ok(w % m);
         }
     }

@@ -3,12 +3,10 @@ ghost use Rattle.design.specs.Faults.{Answers};
 ghost use Rattle.totals.specs.Additions.{add_refusal};
 
 use design::fault::{Fault, Reason};
+use design::limits::LARGEST_WEIGHT;
 
 /// The most additions that a total takes until it is cleared.
 pub const MOST_ADDITIONS: u16 = 1024;
-
-/// The largest weight of an addition.
-pub const LARGEST_WEIGHT: u32 = 1_000_000_000;
 
 /// How often a total of any kind was added to since it was cleared.
 #[derive(Drop)]
@@ -31,7 +29,7 @@ impl Additions {
         ensures kept { OnErr result (self.new.count ≡ self.old.count) }
     {
         if w > LARGEST_WEIGHT {
-            return Err(Fault::of(Reason::WeightAboveLimit));
+            return Err(Fault::of(Reason::AddedWeightTooLarge));
         }
         if !lawful {
             return Err(Fault::of(Reason::UnlawfulReading));

@@ -36,7 +36,7 @@ impl Default for Money {
     }
 }
 
-// A lawful reading, with a weight within its limit.
+// The product of a weight and a lawful reading.
 fn weighted(w: u32, reading: i32) -> i64
     requires weight { w ≤ 1000000000 }
     requires reach { unsigned_abs reading ≤ 1000000 }

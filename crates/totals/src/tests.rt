@@ -66,7 +66,7 @@ fn refusals_in_their_order(rt: HostRuntime) -> Result<(), Fail> {
     assert_eq!(rt; total.entry(0), full);
     assert_eq!(rt;
         total.add(1_000_000_001, &1_000_001),
-        Err(Fault::of(Reason::WeightAboveLimit))
+        Err(Fault::of(Reason::AddedWeightTooLarge))
     );
     assert_eq!(rt;
         total.add(1_000_000_000, &1_000_001),

@@ -68,19 +68,19 @@ module _ (B : Plans) (w : Tables) (L : Loaded B w) (a : Plan) (st : Standing) (b
           })
 
 -- ---- what follows the cut, in the words of the plan
-module _ (A B P Q : Plans) (m : ℕ) (list : List Row) (n q : ℕ) (v : Tables) (e : P ≡ A) (f : Q ≡ B) (cut : v ≡ cut_clusters m list) (draws : q ≡ n / m) where
+module _ (A B P Q : Plans) (m : ℕ) (list : List Row) (n q : ℕ) (v : Tables) (e : P ≡ A) (f : Q ≡ B) (cut : v ≡ cut_clusters m list) (drawn : q ≡ n / m) where
   pub opening_is : opening_refusal (P (map cluster_row (all_parts v)) q) Q v
       ≡ first_of (first_refusal (bounds same_cluster list) (first_plan A (clusters m list) m n)
       ∷ part_refusal B (clusters m list)
       ∷ product_refusal (first_plan A (clusters m list) m n) B (clusters m list) (length list) ∷ [])
   opening_is =
       ap₂ (λ (X Y : Plans). opening_refusal (X (map cluster_row (all_parts v)) q) Y v) e f
-      ∙ ap₂ (λ (w : Tables) (k : ℕ). opening_refusal (A (map cluster_row (all_parts w)) k) B w) cut draws
+      ∙ ap₂ (λ (w : Tables) (k : ℕ). opening_refusal (A (map cluster_row (all_parts w)) k) B w) cut drawn
       ∙ ap (λ (ps : List Part). first_of (first_refusal (bounds same_cluster list) (first_plan A ps m n) ∷ part_refusal B ps ∷ product_refusal (first_plan A ps m n) B ps (length list) ∷ []))
       (clusters_are m list)
 
   pub run_is : stages_run (P (map cluster_row (all_parts v)) q) Q (all_parts v) (length v.rows) ≡ stages_run (first_plan A (clusters m list) m n) B (clusters m list) (length list)
   run_is =
       ap₂ (λ (X Y : Plans). stages_run (X (map cluster_row (all_parts v)) q) Y (all_parts v) (length v.rows)) e f
-      ∙ ap₂ (λ (w : Tables) (k : ℕ). stages_run (A (map cluster_row (all_parts w)) k) B (all_parts w) (length w.rows)) cut draws
+      ∙ ap₂ (λ (w : Tables) (k : ℕ). stages_run (A (map cluster_row (all_parts w)) k) B (all_parts w) (length w.rows)) cut drawn
       ∙ ap (λ (ps : List Part). stages_run (first_plan A ps m n) B ps (length list)) (clusters_are m list)

@@ -10,7 +10,7 @@ use Rattle.parts.specs.Parts.{Part, bounds, cut, cuts, same_cluster}
 use Rattle.parts.specs.Orders.{lower_cluster, fall_refusal}
 use Rattle.parts.specs.Running.{Tables, all_parts, sample_of}
 use Rattle.parts.proofs.Places.{cut-length}
-use Rattle.layers.specs.TwoStage.{clusters, crowd_refusal, clusters_refusal}
+use Rattle.layers.specs.TwoStage.{clusters, cluster_count_refusal, clusters_refusal}
 use Rattle.series.specs.Kinds.{cut_refusal}
 use Rattle.series.specs.Tables.{newly_cut}
 use Rattle.series.specs.declared.kind.PartKind.TheVariants.{Cluster}
@@ -18,26 +18,26 @@ use Rattle.two_stage.specs.Of.{cut_clusters}
 
 module _ (m : ℕ) (list : List Row) (n : ℕ) (some : eqb m 0 ≡ false) (lists : list_refusal list n ≡ None) where
   -- what is left to check: the order, a sample size that is a multiple, and few clusters
-  pub left_is : clusters_refusal m list n ≡ first_of (fall_refusal lower_cluster list ∷ refused_if (not (eqb (n % m) 0)) 14 ∷ crowd_refusal (bounds same_cluster list) ∷ [])
+  pub left_is : clusters_refusal m list n ≡ first_of (fall_refusal lower_cluster list ∷ refused_if (not (eqb (n % m) 0)) 14 ∷ cluster_count_refusal (bounds same_cluster list) ∷ [])
   left_is =
-      let rest = first_of (fall_refusal lower_cluster list ∷ refused_if (not (eqb (n % m) 0)) 14 ∷ crowd_refusal (bounds same_cluster list) ∷ []) in
+      let rest = first_of (fall_refusal lower_cluster list ∷ refused_if (not (eqb (n % m) 0)) 14 ∷ cluster_count_refusal (bounds same_cluster list) ∷ []) in
       ap (λ x. or_else (refused_if x 10) (or_else (list_refusal list n) rest)) some ∙ ap (λ (x : Option Refusal). or_else x rest) lists
 
   module _ (cuts : cut_refusal Cluster list ≡ None) where
     falls : fall_refusal lower_cluster list ≡ None
     falls = (neither (fall_refusal lower_cluster list) _ (neither (count_refusal list) _ cuts).1).0
 
-    past_falls : clusters_refusal m list n ≡ first_of (refused_if (not (eqb (n % m) 0)) 14 ∷ crowd_refusal (bounds same_cluster list) ∷ [])
-    past_falls = left_is ∙ ap (λ (x : Option Refusal). or_else x (first_of (refused_if (not (eqb (n % m) 0)) 14 ∷ crowd_refusal (bounds same_cluster list) ∷ []))) falls
+    past_falls : clusters_refusal m list n ≡ first_of (refused_if (not (eqb (n % m) 0)) 14 ∷ cluster_count_refusal (bounds same_cluster list) ∷ [])
+    past_falls = left_is ∙ ap (λ (x : Option Refusal). or_else x (first_of (refused_if (not (eqb (n % m) 0)) 14 ∷ cluster_count_refusal (bounds same_cluster list) ∷ []))) falls
 
     pub crowded : eqb (n % m) 0 ≡ true → 129 < length (bounds same_cluster list) → clusters_refusal m list n ≡ Some (refusal_at 15 (get_or (bounds same_cluster list) 128 0))
     crowded e l =
-        past_falls ∙ ap (λ x. first_of (refused_if (not x) 14 ∷ crowd_refusal (bounds same_cluster list) ∷ [])) e
+        past_falls ∙ ap (λ x. first_of (refused_if (not x) 14 ∷ cluster_count_refusal (bounds same_cluster list) ∷ [])) e
         ∙ ap (λ b. first_of (refused_at (cond b (Some (get_or (bounds same_cluster list) 128 0)) None) 15 ∷ [])) (lt-ltb 129 (length (bounds same_cluster list)) l)
 
     pub cut_fits : eqb (n % m) 0 ≡ true → length (bounds same_cluster list) ≤ 129 → clusters_refusal m list n ≡ None
     cut_fits e l =
-        past_falls ∙ ap (λ x. first_of (refused_if (not x) 14 ∷ crowd_refusal (bounds same_cluster list) ∷ [])) e
+        past_falls ∙ ap (λ x. first_of (refused_if (not x) 14 ∷ cluster_count_refusal (bounds same_cluster list) ∷ [])) e
         ∙ ap (λ b. first_of (refused_at (cond b (Some (get_or (bounds same_cluster list) 128 0)) None) 15 ∷ [])) (le-ltb 129 (length (bounds same_cluster list)) l)
 
 -- ---- the clusters, each with the same sample size

@@ -9,12 +9,12 @@ use Rattle.parts.specs.Running.{all_parts, share_at}
 use Rattle.parts.proofs.Seats.{seat_place}
 use Rattle.layers.specs.Stages.{units_of, denominator_at}
 use Rattle.series.specs.Tables.{tables}
-use Rattle.series.specs.declared.table.Table.{Table}
+use Rattle.series.specs.declared.table.PartTable.{PartTable}
 use Rattle.two_stage.specs.Of.{large_product}
 use Rattle.series.proofs.Tabled.{rising, counted}
 
 -- the test at the unit k, whose cluster is j
-pub test_is : (t : Table) (st : Standing) (k j a : ℕ) (s : Fraction) (x : Bool) → units_of st ≡ length (all_parts (tables t)) → Seated (tables t).bounds k j
+pub test_is : (t : PartTable) (st : Standing) (k j a : ℕ) (s : Fraction) (x : Bool) → units_of st ≡ length (all_parts (tables t)) → Seated (tables t).bounds k j
     → (j < units_of st → a ≡ denominator_at st j) → s ≡ share_at (tables t) k → x ≡ ltb (10 ^ 15) (a * s.denominator) → large_product st (tables t) k ≡ x
 test_is t st k j a s x u seat den is e =
     let inside : j < units_of st = omega (arith, seat.place, u, counted t, t.chosen_all) in

@@ -13,7 +13,7 @@ use Rattle.design.specs.Plans.{Plans, fraction}
 use Rattle.parts.specs.Running.{Tables}
 use Rattle.parts.proofs.Places.{cut-length}
 use Rattle.layers.specs.Stages.{Fits, FirstUnderway}
-use Rattle.two_stage.specs.Of.{WholeIn}
+use Rattle.two_stage.specs.Of.{IntactIn}
 use Rattle.two_stage.specs.contracts.Stage.{the_type}
 use Rattle.two_stage.specs.declared.Stage.{Stage}
 use Rattle.two_stage.specs.declared.Stage.TheVariants.{Waiting, First, Second}
@@ -46,7 +46,7 @@ as_answered st s k a b x h p q =
     subst (λ (c : Fraction). Shared st k (Ok c)) (sym (ap₂ fraction (p (omega (arith, z.0, z.1))) (q (omega (arith, z.1))))) h
 
 -- ---- the stage, by what it is not
-pub first_underway : (stage : Stage) (I J : Type 0) (B : Plans) (v : Tables) (st su : Standing) → false ≡ sameb the_type stage Waiting → WholeIn stage I J B v st su → FirstUnderway I B v st
+pub first_underway : (stage : Stage) (I J : Type 0) (B : Plans) (v : Tables) (st su : Standing) → false ≡ sameb the_type stage Waiting → IntactIn stage I J B v st su → FirstUnderway I B v st
 first_underway Waiting I J B v st su e h = absurd (false≢true e)
 first_underway First I J B v st su e h = h.drawing.underway
 first_underway Second I J B v st su e h = h.underway

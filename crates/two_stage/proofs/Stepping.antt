@@ -4,7 +4,7 @@ use Rattle.design.specs.Faults.{numbered, refusal}
 use Rattle.design.specs.Design.{Standing, Stepped, ways_of, below}
 use Rattle.design.specs.declared.fault.Fault.{Fault}
 use Rattle.design.specs.Plans.{Plans}
-use Rattle.parts.specs.Running.{Tables, Intact, Moved}
+use Rattle.parts.specs.Running.{Tables, Intact, Undisturbed}
 use Rattle.layers.specs.Stages.{in_first, in_second, Fits, Drawing, InFirst, InSecond}
 use Rattle.layers.proofs.Stages.{ways_first, below_first, ways_second, below_second, fits_below}
 use Rattle.series.specs.Of.{SameList}
@@ -21,7 +21,7 @@ gone_on I I' J B v st st' su d h i l e =
     }
 
 pub stepped_first : {U : Type 0} (r : Result U Fault) (S : Type 0) (B : Plans) (v : Tables) (st st' now : Standing) (d : ℕ) → 0 < ways_of st → d < ways_of st → st' ≡ below st d
-    → Moved r S now (in_first B v st') → Stepped (in_first B v st) d r now × S
+    → Undisturbed r S now (in_first B v st') → Stepped (in_first B v st) d r now × S
 stepped_first r S B v st st' now d some l e m =
     stepped_by r S now (in_first B v st') (in_first B v st) d m (ap (in_first B v) e ∙ below_first B v st d some) (omega (arith, ways_first B v st some, l))
 

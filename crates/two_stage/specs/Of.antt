@@ -1,10 +1,11 @@
 -- What the fields of two-stage drawing stand for.
-use Rattle.std.specs.Prelude.{◌≡◌, ℕ, ◌-◌, ◌*◌, Bool, ◌/◌, ◌≤◌, List, [], ◌∷◌, map, length, replicate, None, Option, option_map, unwrap_or}
+use Rattle.std.specs.Prelude.{◌≡◌, ℕ, ◌-◌, ◌*◌, Bool, ◌/◌, ◌≤◌, List, [], ◌∷◌, map, length, replicate, None, Option, Result, option_map, unwrap_or}
 use Rattle.std.specs.NonZero.{non_zero_u32_get}
-use Rattle.design.specs.Faults.{Refusal, first_of}
-use Rattle.design.specs.Lists.{total}
+use Rattle.design.specs.Faults.{Refusal, Answers, first_of, refused_at}
+use Rattle.design.specs.Lists.{total, first}
 use Rattle.design.specs.Design.{Plan, Standing, no_run, in_run}
 use Rattle.design.specs.declared.design.Design as Design
+use Rattle.design.specs.declared.fault.Fault.{Fault}
 use Rattle.design.specs.declared.row.Row.{Row}
 use Rattle.parts.specs.Parts.{bounds, same_cluster, place_of}
 use Rattle.design.specs.Plans.{Plans}
@@ -25,17 +26,17 @@ stands_in First B v st su = in_first B v st
 stands_in Second B v st su = in_second B v st (standing_of B v su)
 
 -- the parts of the state belong together, by the stage; I and J say that the first and the second design are intact
-abbrev pub WholeIn : Stage → Type 0 → Type 0 → Plans → Tables → Standing → Standing → Type 0
-WholeIn Waiting I J B v st su = Unit {0}
-WholeIn First I J B v st su = InFirst I J B v st su
-WholeIn Second I J B v st su = InSecond I J B v st su
+abbrev pub IntactIn : Stage → Type 0 → Type 0 → Plans → Tables → Standing → Standing → Type 0
+IntactIn Waiting I J B v st su = Unit {0}
+IntactIn First I J B v st su = InFirst I J B v st su
+IntactIn Second I J B v st su = InSecond I J B v st su
 
 -- the same of a layer, over the meanings G of the first design and H of the second
 abbrev pub stands : {A B : Type 0} → Design.Ghosts A → Design.Ghosts B → TwoStage A B → Standing
 stands G H s = stands_in s.stage (H.plan s.second.below) (tables_of s.second) (G.tree s.first) (H.tree s.second.below)
 
-abbrev pub IsWhole : {A B : Type 0} → Design.Ghosts A → Design.Ghosts B → TwoStage A B → Type 0
-IsWhole G H s = WholeIn s.stage (G.intact s.first) (H.intact s.second.below) (H.plan s.second.below) (tables_of s.second) (G.tree s.first) (H.tree s.second.below)
+abbrev pub IsIntact : {A B : Type 0} → Design.Ghosts A → Design.Ghosts B → TwoStage A B → Type 0
+IsIntact G H s = IntactIn s.stage (G.intact s.first) (H.intact s.second.below) (H.plan s.second.below) (tables_of s.second) (G.tree s.first) (H.tree s.second.below)
 
 -- the first design runs, and may have finished
 abbrev pub IsDrawing : {A B : Type 0} → Design.Ghosts A → Design.Ghosts B → TwoStage A B → Type 0
@@ -47,8 +48,8 @@ drawing G H s = in_first (H.plan s.second.below) (tables_of s.second) (G.tree s.
 
 -- both designs, with no number set and no run
 pub record IsNew {A B : Type 0} (first : A) (second : B) (s : TwoStage A B) : Type 0 where
-  pub over : s.first ≡ first
-  pub within_over : s.second.below ≡ second
+  pub first_is : s.first ≡ first
+  pub second_is : s.second.below ≡ second
   pub no_number : s.within ≡ None
   pub no_run : s.stage ≡ Waiting
 
@@ -62,20 +63,20 @@ pub record SetWithin {A B : Type 0} (m : ℕ) (old new : TwoStage A B) : Type 0 
   pub ended : new.stage ≡ Waiting
   pub first : new.first ≡ old.first
   pub second : new.second ≡ old.second
-  pub heads : new.heads ≡ old.heads
+  pub cluster_rows : new.cluster_rows ≡ old.cluster_rows
 
 -- the tables of a list newly cut into clusters, each with the sample size m
 abbrev pub cut_clusters : ℕ → List Row → Tables
 cut_clusters m list = asked (newly_cut same_cluster list) (replicate (length (bounds same_cluster list) - 1) m)
 
--- a list was cut into clusters of m units each, of which q are drawn
+-- a list was cut into clusters, of which q are to be drawn, and m units of each that is drawn
 pub record CutInto {A B : Type 0} (m q : ℕ) (list : List Row) (n : ℕ) (s : TwoStage A B) : Type 0 where
   pub clusters : tables_of s.second ≡ cut_clusters m list
-  pub draws : q ≡ n / m
+  pub drawn : q ≡ n / m
   pub few : length (all_parts (tables_of s.second)) ≤ 128
   pub small : total (tables_of s.second).rows ≤ 10240000
 
--- both designs, the number and the run stay
+-- both designs, the number and the stage stay; the tables of the list may change
 pub record SameLayer {A B : Type 0} (old new : TwoStage A B) : Type 0 where
   pub first : new.first ≡ old.first
   pub second : new.second.below ≡ old.second.below
@@ -95,10 +96,18 @@ opening_refusal a B v = first_of (first_refusal v.bounds a ∷ part_refusal B (a
 abbrev pub large_product : Standing → Tables → ℕ → Bool
 large_product st v = too_large (λ k. denominator_at st (place_of 0 (all_parts v) k) * (share_at v k).denominator)
 
+-- the refusal of the first unit whose product of denominators is too large
+abbrev pub large_refusal : Standing → Tables → Option Refusal
+large_refusal st v = refused_at (first (length v.rows) (large_product st v)) 16
+
 -- the first design has begun as the plan a says, and the second accepts every cluster
 pub record Opened {A B : Type 0} (G : Design.Ghosts A) (H : Design.Ghosts B) (a : Plan) (old new : TwoStage A B) : Type 0 where
   pub underway : IsDrawing G H new
   pub run : drawing G H new ≡ in_run (stages_run a (H.plan old.second.below) (all_parts (tables_of old.second)) (length (tables_of old.second).rows))
+
+-- where the first design does a: refused with what is left, or opened
+abbrev pub Opens : {A B U : Type 0} → Design.Ghosts A → Design.Ghosts B → Plan → TwoStage A B → TwoStage A B → Result U Fault → Type 0
+Opens G H a old new result = Answers (opening_refusal a (H.plan old.second.below) (tables_of old.second)) (λ _. Opened G H a old new) result
 
 -- what the settings fix stays, and so does the stage
 pub record SameSettings {A B : Type 0} (G : Design.Ghosts A) (H : Design.Ghosts B) (old new : TwoStage A B) : Type 0 where

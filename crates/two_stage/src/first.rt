@@ -1,17 +1,16 @@
-ghost use Rattle.std.specs.Prelude.{◌≡◌, ℕ, ◌*◌, ◌^◌, ◌<◌, ◌≤◌, length, nat_lt};
-ghost use Rattle.design.specs.Faults.{Answers, refused_at};
-ghost use Rattle.design.specs.Lists.{first as first_that};
+ghost use Rattle.std.specs.Prelude.{◌≡◌, ◌*◌, ◌^◌, ◌<◌, length, nat_lt};
+ghost use Rattle.design.specs.Faults.{Answers};
 ghost use Rattle.layers.specs.Stages.{units_of, denominator_at};
 ghost use Rattle.layers.specs.TwoStage.{first_refusal};
 ghost use Rattle.parts.specs.Running.{all_parts, Begins};
 ghost use Rattle.series.specs.Tables.{tables};
-ghost use Rattle.two_stage.specs.Of.{large_product};
+ghost use Rattle.two_stage.specs.Of.{large_product, large_refusal};
 
 use design::check::refuse_at;
 use design::design::Design;
 use design::fault::{Fault, Reason};
 use design::row::Row;
-use series::table::Table;
+use series::table::PartTable;
 
 /// The largest denominator that a share may have.
 pub const LARGEST_DENOMINATOR: u64 = 1_000_000_000_000_000;
@@ -19,21 +18,21 @@ pub const LARGEST_DENOMINATOR: u64 = 1_000_000_000_000_000;
 /// Begins the first design on the rows of the clusters, or passes its fault upward, at the first row of the cluster that it names.
 pub fn begin_first<A: Design>(
     first: &mut A,
-    heads: &[Row],
-    table: &Table,
+    cluster_rows: &[Row],
+    table: &PartTable,
     n: u32,
 ) -> Result<(), Fault>
-    ensures begun { Answers (first_refusal (tables table.now).bounds (A.plan first.old heads.now n)) (λ _. Begins (A.plan first.old heads.now n) (A.tree first.new)) result }
-    ensures whole { A.intact first.new }
+    ensures begun { Answers (first_refusal (tables table.now).bounds (A.plan first.old cluster_rows.now n)) (λ _. Begins (A.plan first.old cluster_rows.now n) (A.tree first.new)) result }
+    ensures intact { A.intact first.new }
     ensures settings { A.plan first.new ≡ A.plan first.old }
 {
     first
-        .begin(heads, n)
+        .begin(cluster_rows, n)
         .map_err(|f| f.passed_up(table.first_row(f.row as usize)))
 }
 
 // The denominator of the cluster j in the first stage, where there is one.
-fn denominator_of<A: Design>(first: &A, j: u32) -> u64
+fn denominator_at<A: Design>(first: &A, j: u32) -> u64
     ensures { A.intact first.now → j < units_of (A.tree first.now) → result ≡ denominator_at (A.tree first.now) j }
 {
     first.share(j).map_or(0, |share| share.denominator)
@@ -48,18 +47,18 @@ fn is_too_large(a: u64, b: u64) -> bool
 }
 
 // Whether the product of the denominators of the unit k is too large.
-fn has_large_product<A: Design>(first: &A, table: &Table, k: u32) -> bool
+fn has_large_product<A: Design>(first: &A, table: &PartTable, k: u32) -> bool
     requires { k < length (tables table.now).rows }
     ensures { A.intact first.now → units_of (A.tree first.now) ≡ length (all_parts (tables table.now)) → result ≡ large_product (A.tree first.now) (tables table.now) k }
 {
     let cluster = table.part_of(k);
-    let whole = denominator_of(first, cluster as u32);
-    is_too_large(whole, table.prescribed(k as usize).denominator)
+    let of_cluster = denominator_at(first, cluster as u32);
+    is_too_large(of_cluster, table.prescribed(k as usize).denominator)
 }
 
 /// Refuses the first row whose product of denominators is too large.
-pub fn check_products<A: Design>(first: &A, table: &Table) -> Result<(), Fault>
-    ensures { A.intact first.now → units_of (A.tree first.now) ≡ length (all_parts (tables table.now)) → Answers (refused_at (first_that (length (tables table.now).rows) (large_product (A.tree first.now) (tables table.now))) 16) (λ _. Unit {0}) result }
+pub fn check_products<A: Design>(first: &A, table: &PartTable) -> Result<(), Fault>
+    ensures { A.intact first.now → units_of (A.tree first.now) ≡ length (all_parts (tables table.now)) → Answers (large_refusal (A.tree first.now) (tables table.now)) (λ _. Unit {0}) result }
 {
     let large = (0..table.units()).find(|k| has_large_product(first, table, *k as u32));
     refuse_at(large, Reason::DenominatorTooLarge)

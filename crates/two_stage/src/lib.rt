@@ -6,30 +6,30 @@ ghost use Rattle.design.specs.Faults.{Answers};
 ghost use Rattle.design.specs.Lists.{total};
 ghost use Rattle.layers.specs.TwoStage.{within_refusal, clusters_refusal, two_stage_plan};
 ghost use Rattle.layers.proofs.TwoStagePlans.{two_stage_sound};
-ghost use Rattle.parts.specs.Running.{Moved, all_parts};
-ghost use Rattle.series.specs.Of.{plans, tables_of};
+ghost use Rattle.parts.specs.Running.{Undisturbed, all_parts};
+ghost use Rattle.series.specs.Of.{tables_of};
 ghost use Rattle.two_stage.specs.Exact.{exact_stages};
-ghost use Rattle.two_stage.specs.Of.{stands, IsWhole, IsDrawing, drawing, IsNew, SetWithin, number_set, CutInto, SameLayer, first_does, opening_refusal, Opened, SameSettings};
+ghost use Rattle.two_stage.specs.Of.{stands, IsIntact, IsDrawing, drawing, IsNew, SetWithin, number_set, CutInto, SameLayer, first_does, Opens, SameSettings};
 
+use cluster_rows::{ClusterRows, MOST_CLUSTERS};
 use design::check::check_list;
 use design::design::Design;
 use design::fault::{Fault, Reason};
 use design::fraction::Fraction;
 use design::row::Row;
 use first::{begin_first, check_products};
-use heads::{Heads, MOST_CLUSTERS};
 use series::Series;
 use series::kind::PartKind;
 use std::alloc::{AllocError, Global};
 use std::num::NonZeroU32;
 
+mod cluster_rows;
 mod first;
-mod heads;
 
 /// The largest number that may be taken of each cluster.
 pub const MOST_WITHIN: u32 = 1024;
 
-/// What a run of both stages has come to. An enum, and no closure that runs the stage, as each stage stands for a tree of its own.
+/// How far a run of both stages has come.
 #[derive(Clone, Copy, PartialEq, Eq, Debug)]
 pub enum Stage {
     /// No run stands.
@@ -45,7 +45,7 @@ pub enum Stage {
 pub struct TwoStage<A: Design, B: Design> {
     first: A,
     second: Series<B>,
-    heads: Heads,
+    cluster_rows: ClusterRows,
     within: Option<NonZeroU32>,
     stage: Stage,
 }
@@ -58,12 +58,12 @@ impl<A: Design, B: Design> TwoStage<A, B> {
         B: Drop,
         ensures { IfOk result (IsNew first second) }
     {
-        let heads = Heads::new(heap)?;
+        let cluster_rows = ClusterRows::new(heap)?;
         let second = Series::new(heap, second)?;
         Ok(TwoStage {
             first,
             second,
-            heads,
+            cluster_rows,
             within: None,
             stage: Stage::Waiting,
         })
@@ -105,18 +105,18 @@ impl<A: Design, B: Design> TwoStage<A, B> {
     }
 
     // Begins the first design on the clusters, tries the second on each of them, and looks for a denominator that is too large.
-    fn open(&mut self, draws: u32) -> Result<(), Fault>
+    fn open(&mut self, drawn: u32) -> Result<(), Fault>
         requires few { length (all_parts (tables_of self.old.second)) ≤ 128 }
         requires small { total (tables_of self.old.second).rows ≤ 10240000 }
-        ensures answers { Answers (opening_refusal (first_does A.Design self.old draws) (plans B.Design self.old.second) (tables_of self.old.second)) (λ _. Opened A.Design B.Design (first_does A.Design self.old draws) self.old self.new) result }
+        ensures answers { Opens A.Design B.Design (first_does A.Design self.old drawn) self.old self.new result }
         ensures same { SameSettings A.Design B.Design self.old self.new }
     {
-        self.heads.fill(&self.second.table);
+        self.cluster_rows.fill(&self.second.table);
         begin_first(
             &mut self.first,
-            self.heads.as_slice(),
+            self.cluster_rows.as_slice(),
             &self.second.table,
-            draws,
+            drawn,
         )?;
         self.second.try_parts()?;
         check_products(&self.first, &self.second.table)
@@ -125,7 +125,7 @@ impl<A: Design, B: Design> TwoStage<A, B> {
     // Once the first design has come to its outcome, the second starts on the clusters that it holds.
     fn settle(&mut self) -> Result<(), Fault>
         requires { self.old.stage ≡ Stage.First }
-        ensures settled { IsDrawing A.Design B.Design self.old → Moved result (IsWhole A.Design B.Design self.new) (stands A.Design B.Design self.new) (drawing A.Design B.Design self.old) }
+        ensures settled { IsDrawing A.Design B.Design self.old → Undisturbed result (IsIntact A.Design B.Design self.new) (stands A.Design B.Design self.new) (drawing A.Design B.Design self.old) }
         ensures first { self.new.first ≡ self.old.first }
         ensures second { B.plan self.new.second.below ≡ B.plan self.old.second.below }
         ensures number { self.new.within ≡ self.old.within }
@@ -144,16 +144,21 @@ impl<A: Design, B: Design> Design for TwoStage<A, B> {
 
     ghost tree = { λ s. stands A.Design B.Design s };
 
-    ghost intact = { λ s. IsWhole A.Design B.Design s };
+    ghost intact = { λ s. IsIntact A.Design B.Design s };
 
-    ghost sound = { λ s. two_stage_sound (A.plan s.first) (B.plan s.second.below) (A.sound s.first) (B.sound s.second.below) (number_set s) };
+    ghost sound = { λ s.
+        let below = s.second.below in
+        two_stage_sound (A.plan s.first) (B.plan below) (A.sound s.first) (B.sound below) (number_set s) };
 
-    ghost exact = { λ s h. exact_stages s.stage (A.intact s.first) (B.intact s.second.below) (B.plan s.second.below) (B.sound s.second.below) (tables_of s.second) (A.tree s.first) (B.tree s.second.below) h (A.exact s.first) (B.exact s.second.below) };
+    ghost exact = { λ s h.
+        let below = s.second.below in
+        exact_stages s.stage (A.intact s.first) (B.intact below) (B.plan below) (B.sound below) (tables_of s.second)
+        (A.tree s.first) (B.tree below) h (A.exact s.first) (B.exact below) };
 
     fn begin(&mut self, list: &[Row], n: u32) -> Result<(), Fault> {
         self.stage = Stage::Waiting;
-        let draws = self.cut(list, n)?;
-        self.open(draws)?;
+        let drawn = self.cut(list, n)?;
+        self.open(drawn)?;
         self.stage = Stage::First;
         self.settle()
     }

@@ -23,7 +23,7 @@ pub record Prescribed (num den : ℕ → ℕ) (k : ℕ) (share : Fraction) : Typ
 pub prescribed : (I : Type 0) (standing : Standing) (units : ℕ) (list : List Row) (num : ℕ → ℕ) (run : Run) (k : ℕ) (share : Fraction)
     → JustBegun I standing units list num run → (I → Shared standing k (Ok share)) → Prescribed num run.denominator k share
 prescribed I standing units list num run k share h answer =
-    let e = prescribed_first list num run k share h.sound (subst (λ s. Shared s k (Ok share)) h.stands (answer h.whole)) in
+    let e = prescribed_first list num run k share h.sound (subst (λ s. Shared s k (Ok share)) h.stands (answer h.intact)) in
     record { numerator = e.0; denominator = e.1 }
 
 pub all_some : (I : Type 0) (standing : Standing) (units : ℕ) (list : List Row) (num : ℕ → ℕ) (run : Run)

@@ -5,10 +5,10 @@ use Rattle.design.specs.declared.design.Design as Design
 use Rattle.design.specs.declared.row.Row.{Row}
 use Rattle.weights.specs.Scale.{design_weight}
 
--- an intact design stands at a run that is sound for this list of so many units, with these numerators: as it does directly after it has
+-- an intact design (I says that it is) stands at a run that is sound for this list of so many units, with these numerators: as it does directly after it has
 -- accepted the list, when they are the prescribed ones
-pub record JustBegun (intact : Type 0) (standing : Standing) (units : ℕ) (list : List Row) (num : ℕ → ℕ) (run : Run) : Type 0 where
-  pub whole : intact
+pub record JustBegun (I : Type 0) (standing : Standing) (units : ℕ) (list : List Row) (num : ℕ → ℕ) (run : Run) : Type 0 where
+  pub intact : I
   pub stands : standing ≡ in_run run
   pub sound : Sound list num run
   pub all : units ≡ length list

@@ -5,14 +5,14 @@ ghost use Rattle.std.specs.Prelude.{◌≤◌, length};
 ghost use Rattle.weights.specs.Scale.{NoneTooHeavy};
 
 use bounded::BoundedVec;
-use design::check::MOST_ROWS;
+use design::limits::MOST_ROWS;
 
-mod reading;
 pub mod scale;
 mod setting;
 pub mod terms;
 #[cfg(test)]
 mod tests;
+mod values;
 pub mod weighing;
 
 /// The scale of a frame, and the design weight of each of its units.
@@ -22,6 +22,6 @@ pub struct Weights {
     of_units: BoundedVec<u32, MOST_ROWS>,
     pub ghost scale_within: { scale ≤ 1000000 },
     pub ghost weights_within: { NoneTooHeavy of_units },
-    // Said again: what a bounded list keeps of its length is not seen by who holds one.
+    // Repeated here, as who holds a BoundedVec sees its items only, and not its invariant.
     pub ghost few: { length of_units ≤ 1024 },
 }

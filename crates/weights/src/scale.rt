@@ -13,7 +13,7 @@ pub const LARGEST_SCALE: u64 = 1_000_000;
 
 // The least common multiple of two numbers, where it is no larger than a scale may be. It only grows from unit to unit, so a frame
 // whose scale passes the largest one is refused as soon as it does.
-fn common_multiple(a: u64, b: u64) -> Result<u64, Fault>
+fn least_common_multiple(a: u64, b: u64) -> Result<u64, Fault>
     ensures answers { 0 < a → 0 < b → Answers (refused_if (nat_lt 1000000 (lcm a b)) 22) (λ m. m ≡ lcm a b) result }
     ensures small { IfOk result (λ m. m ≤ 1000000) }
 {
@@ -34,7 +34,7 @@ pub(crate) fn find_scale<D: Design>(design: &D, units: u32) -> Result<u32, Fault
     let mut scale = 1;
     for k in 0..units {
         let share = lowest_terms(design.share(k)?);
-        scale = common_multiple(scale, share.numerator)?;
+        scale = least_common_multiple(scale, share.numerator)?;
     }
     Ok(scale as u32)
 }

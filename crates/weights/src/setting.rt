@@ -1,16 +1,13 @@
 ghost use Rattle.std.specs.Prelude.{◌≤◌, IfOk, OnErr};
-ghost use Rattle.design.specs.Faults.{Answers};
-ghost use Rattle.weights.specs.Begun.{OfPrescribed};
-ghost use Rattle.weights.specs.Of.{HasNone, Weighs};
-ghost use Rattle.weights.specs.Scale.{weights_refusal};
+ghost use Rattle.weights.specs.Of.{HasNone, SetFor};
 
 use crate::Weights;
 use crate::scale::find_scale;
 use crate::weighing::weigh;
 use bounded::BoundedVec;
-use design::check::MOST_ROWS;
 use design::design::Design;
 use design::fault::Fault;
+use design::limits::MOST_ROWS;
 use std::alloc::{AllocError, Global};
 
 impl Weights {
@@ -22,19 +19,19 @@ impl Weights {
         Ok(Weights { scale: 1, of_units })
     }
 
-    // As set_for, but refused it leaves what it has come to.
+    // Like `set_for`, but refused it leaves scale and weights half done.
     fn try_for<D: Design>(&mut self, design: &D, units: u32) -> Result<(), Fault>
         requires { units ≤ 1024 }
-        ensures { OfPrescribed D.Design design.now units (λ num den. Answers (weights_refusal units num den) (λ _. Weighs units num den self.new) result) }
+        ensures { SetFor D.Design design.now units self.new result }
     {
         self.scale = find_scale(design, units)?;
         weigh(design, units, self.scale, &mut self.of_units)
     }
 
-    /// Works out the scale and the weights of a design that has just begun on so many units. Refused, no weights are left. Of a design that
-    /// stands elsewhere the promise says that alone.
+    /// Works out the scale and the weights of a design that has just begun on so many units. Refused, no weights are left; of
+    /// a design that has not just begun, only that is promised.
     pub fn set_for<D: Design>(&mut self, design: &D, units: u32) -> Result<(), Fault>
-        ensures answers { OfPrescribed D.Design design.now units (λ num den. Answers (weights_refusal units num den) (λ _. Weighs units num den self.new) result) }
+        ensures answers { SetFor D.Design design.now units self.new result }
         ensures refused { OnErr result (HasNone self.new) }
     {
         // No design accepts more units.

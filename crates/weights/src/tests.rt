@@ -78,7 +78,7 @@ fn refuses_above_the_limits(rt: HostRuntime) -> Result<(), Fail> {
     let heavy = answering([1_000_000, 1, 1], [1_000_001, 1001, 1001]);
     assert_eq!(rt;
         weights.set_for(&heavy, 3),
-        Err(Fault::at(Reason::WeightTooLarge, 1))
+        Err(Fault::at(Reason::DesignWeightTooLarge, 1))
     );
     assert_eq!(rt; weights.units(), 0);
     let coarse = answering([1_000_001, 1, 1], [1_000_002, 1, 1]);

@@ -4,13 +4,10 @@ ghost use Rattle.weights.specs.Begun.{HaveWeights, OfPrescribed};
 ghost use Rattle.weights.specs.Scale.{NoneTooHeavy, design_weight, weight_refusal};
 
 use bounded::BoundedVec;
-use design::check::MOST_ROWS;
 use design::design::Design;
 use design::fault::{Fault, Reason};
 use design::fraction::Fraction;
-
-/// The largest design weight that a unit may have.
-pub const LARGEST_WEIGHT: u32 = 1_000_000_000;
+use design::limits::{LARGEST_WEIGHT, MOST_ROWS};
 
 // The scale times the share turned over, which is the same in lowest terms or not: 128 bits hold the product of any two such numbers.
 fn weight_of(scale: u32, share: Fraction) -> u128
@@ -35,7 +32,7 @@ pub(crate) fn weigh<D: Design>(
     for k in 0..units {
         let weight = weight_of(scale, design.share(k)?);
         if weight > u128::from(LARGEST_WEIGHT) {
-            return Err(Fault::at(Reason::WeightTooLarge, k));
+            return Err(Fault::at(Reason::DesignWeightTooLarge, k));
         }
         weights.push(weight as u32);
     }

@@ -15,7 +15,7 @@ use Rattle.layers.specs.TwoStage.{two_stage_plan}
 use Rattle.throws.specs.Words.{generator, limit, thrown, left}
 use Rattle.plain_survey.specs.Calls.{scale, weight_in, start_refusal}
 use Rattle.plain_survey.specs.Kinds.{money_kind}
-use Rattle.plain_survey.specs.Reports.{row_at}
+use Rattle.plain_survey.specs.Reports.{row_of_reading}
 use Rattle.plain_survey.specs.Laws.{entry, true_total}
 use Rattle.worked.specs.Terms.{sized, in_stratum, in_cluster, each_of, ways_met, Takes, AlwaysTakes, OfPlainDesigns, entries_reported, Reports}
 
@@ -54,7 +54,7 @@ pub record Estimates : Type 0 where
   pub report_of_0_and_2 : Reports systematic_plan sizes_1_2_3 2 amounts (0 ∷ 2 ∷ []) (pos 44)
   pub report_of_1_and_2 : Reports systematic_plan sizes_1_2_3 2 amounts (1 ∷ 2 ∷ []) (pos 2)
   pub total_weight : weight (tree_of systematic_example) ≡ 6
-  pub true_total_is : true_total 3 (row_at money_kind amounts) 0 ≡ pos 8
+  pub true_total_is : true_total 3 (row_of_reading money_kind amounts) 0 ≡ pos 8
   pub reports_of_both : reports_together ≡ pos 2 *ℤ pos 44 +ℤ pos 4 *ℤ pos 2
   pub reports_come_to : reports_together ≡ pos 96
   pub right_on_the_average : reports_together ≡ pos (6 * 2) *ℤ pos 8

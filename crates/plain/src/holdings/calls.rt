@@ -1,4 +1,4 @@
-ghost use Rattle.std.specs.Prelude.{◌≡◌, ◌≤◌, true, false, length, set as replaced, IfOk, OnErr, slice_index};
+ghost use Rattle.std.specs.Prelude.{◌≡◌, ◌≤◌, false, length, set as replaced, IfOk, OnErr, slice_index};
 ghost use Rattle.design.specs.Faults.{Answers};
 ghost use Rattle.design.specs.Lists.{total as total_of};
 ghost use Rattle.methods.specs.Holdings.{HeldShare};
@@ -7,9 +7,10 @@ ghost use Rattle.plain.specs.Of.{runs, whole, held, HoldsGoals};
 
 use super::Holdings;
 use bounded::BoundedVec;
-use design::check::{MOST_ROWS, check_list};
+use design::check::check_list;
 use design::fault::{Fault, Reason};
 use design::fraction::Fraction;
+use design::limits::MOST_ROWS;
 use design::row::Row;
 use std::alloc::{AllocError, Global};
 
@@ -27,8 +28,8 @@ fn note_goals(
 {
     goals.clear();
     for (i, row) in list.iter().enumerate() {
-        let goal = n as u64 * row.size as u64;
-        if goal > total as u64 {
+        let goal = u64::from(n) * u64::from(row.size);
+        if goal > u64::from(total) {
             return Err(Fault::at(Reason::ShareAboveOne, i as u32));
         }
         goals.push(goal as u32);
@@ -36,7 +37,7 @@ fn note_goals(
     Ok(())
 }
 
-// What is not there is read as 0, as the definitions read it, so that no clause needs a premise.
+// Past the end these read 0 (or false), as the definitions do, so that no clause needs a premise.
 impl Holdings {
     /// No run, and room for every list that begin accepts, so that no later call needs memory.
     pub fn new(heap: Global) -> Result<Self, AllocError>

@@ -4,7 +4,7 @@ ghost use Rattle.parts.specs.Parts.{bounds as bounds_of};
 ghost use Rattle.series.specs.Kinds.{alike, cut_refusal};
 ghost use Rattle.series.specs.Tables.{tables, newly_cut};
 
-use super::{MOST_BOUNDS, Table};
+use super::{MOST_BOUNDS, PartTable};
 use crate::kind::PartKind;
 use bounded::BoundedVec;
 use design::check::check_count;
@@ -30,14 +30,14 @@ fn note_bounds(kind: PartKind, list: &[Row], bounds: &mut BoundedVec<u32, MOST_B
     bounds.push(list.len() as u32);
 }
 
-impl Table {
+impl PartTable {
     /// Room for every list that a design accepts, so that no later call needs memory.
     pub fn new(heap: Global) -> Result<Self, AllocError>
         ensures { IfOk result (λ t. (tables t).rows ≡ []) }
     {
         let mut bounds = BoundedVec::new(heap)?;
         bounds.push(0);
-        Ok(Table {
+        Ok(PartTable {
             rows: BoundedVec::new(heap)?,
             shares: BoundedVec::new(heap)?,
             taken: BoundedVec::new(heap)?,

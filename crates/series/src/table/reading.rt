@@ -4,7 +4,7 @@ ghost use Rattle.parts.specs.Running.{all_parts, first_row_of, has_present, is_c
 ghost use Rattle.parts.specs.Seats.{Seated};
 ghost use Rattle.series.specs.Tables.{tables, asked};
 
-use super::Table;
+use super::PartTable;
 use design::fraction::Fraction;
 use design::row::Row;
 use std::ops::Range;
@@ -18,8 +18,8 @@ fn find_part(bounds: &[u32], k: u32) -> usize
         .saturating_sub(1)
 }
 
-// What is not there is read as 0, as the definitions read it, so that no clause needs a premise.
-impl Table {
+// Past the end these read 0 (or false), as the definitions do, so that no clause needs a premise.
+impl PartTable {
     /// The number of units.
     pub fn units(&self) -> usize
         ensures { result ≡ length (tables self.now).rows }

@@ -1,5 +1,5 @@
 use Rattle.std.proofs.Common.{◌≡◌, ◌++◌, [], cond, string_bytes, length, ◌∙◌, sym, ap, append-nil, arith}
-use Rattle.plain_survey.specs.Reports.{outcome}
+use Rattle.design.specs.Plans.{outcome}
 use Rattle.plain_survey.proofs.Reports.{finished_is}
 use Rattle.sample_file.specs.Text.{unit_line, unit_lines}
 use Rattle.response.proofs.InOrder.{at_order, units_in_order}

@@ -1,7 +1,7 @@
 use Rattle.std.proofs.Common.{◌≡◌, ◌++◌, ℕ, length, string_bytes}
 use Rattle.design.specs.declared.fraction.Fraction.{Fraction}
 use Rattle.plain_survey.specs.States.{PlainRun}
-use Rattle.plain_survey.specs.Reports.{outcome}
+use Rattle.design.specs.Plans.{outcome}
 use Rattle.sample_file.specs.Text.{unit_lines}
 use Rattle.response.specs.Runs.{EndsAt, in_order}
 use Rattle.response.proofs.asking.write_taken.Given as goal

@@ -26,7 +26,7 @@ returns-then-j-count g c =
           c.begin.result (g.D.Design.tree c.begin.new.self) (omega (arith, c.if-j-count.true, c.count.ensures, counted t))
           (subst (λ (list : List Row). Began (B list (sample_of v j)) c.begin.result (g.D.Design.tree c.begin.new.self)) c.part.ensures
           (subst (λ (n : ℕ). Began (B c.part.result.now n) c.begin.result (g.D.Design.tree c.begin.new.self)) c.sample.ensures c.begin.ensures.begun))
-          c.begin.ensures.settings (g.D.Design.intact c.begin.new.self) c.begin.ensures.whole;
+          c.begin.ensures.settings (g.D.Design.intact c.begin.new.self) c.begin.ensures.intact;
     }
 
 pub returns-else-j-count : goal.returns-else-j-count

@@ -22,7 +22,7 @@ both g c h =
     let has : has_present v ≡ true = sym c.has_part.ensures ∙ c.if-not-has_part.false in
     let i = present_intact I B v st h.underway has in
     let gone = c.in_ok-step.ensures.stepped i in
-    let down = stepped_down I (g.D.Design.intact c.step.new.self) B v st to c.args.d h.underway has (c.step.ensures.whole i) gone.0 gone.1 in
+    let down = stepped_down I (g.D.Design.intact c.step.new.self) B v st to c.args.d h.underway has (c.step.ensures.intact i) gone.0 gone.1 in
     let ways : ways_of (standing g.D.Design s) ≡ ways_of st = ways_are I B v st h ∙ ap (λ b. cond b (ways_of st) 0) has in
     stepped_by c.settle.result (IsIntact g.D.Design x) (standing g.D.Design x) (standing_of C (gone_on v) to) (standing g.D.Design s) c.args.d
     (c.settle.ensures.settled (subst (λ (P : Plans). Underway (g.D.Design.intact c.step.new.self) P (gone_on v) to) (sym c.step.ensures.settings) down.0))
@@ -31,7 +31,7 @@ both g c h =
 pub returns : goal.returns
 returns g c = record {
   stepped = λ h. (both g c h).0;
-  whole = λ h. (both g c h).1;
+  intact = λ h. (both g c h).1;
   same = same_gone (tables_of c.args.self.now) (tables_of c.settle.new.self) c.settle.ensures.same;
   settings = c.settle.ensures.settings ∙ c.step.ensures.settings;
 }

@@ -40,7 +40,7 @@ loop-j-preserved g c =
       c.try_part.ensures.same ∙ ap (λ (w : Tables). with_shares w (tables_of x).shares) l.invariant.1,
       subst (λ r. TriedFrom {U = Unit {0}} (D.intact x.below) B v (tables_of x).shares j (D.tree x.below) r) (sym c.and-answer.ensures)
           (trial_step B v (rising s.table) (D.intact l.self.below) (D.intact x.below) w.shares (tables_of x).shares j (D.tree l.self.below) (D.tree x.below) place c.try_part.result l.answer
-          behind tried c.try_part.ensures.whole),
+          behind tried c.try_part.ensures.intact),
     )
 
 pub returns-clause-tried : goal.returns-clause-tried

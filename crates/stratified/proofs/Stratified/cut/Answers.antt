@@ -21,16 +21,16 @@ returns-then-not-ask-clause-answers g c =
     answers_as (strata_refusal takes list c.args.n) (refusal 12) _ c.of-then-not-ask.result
     (not_as_many takes list c.args.n (sym c.is_empty.ensures ∙ c.if-is_empty.false) cuts.0 as_many) c.of-then-not-ask.ensures
 
-pub returns-then-total-n-clause-answers : goal.returns-then-total-n-clause-answers
-returns-then-total-n-clause-answers g c =
+pub returns-then-total-from-clause-answers : goal.returns-then-total-from-clause-answers
+returns-then-total-from-clause-answers g c =
     let takes = takes_of c.args.self.now in
     let list = c.args.list.now in
     let cuts = accepted _ _ c.in_ok-cut.field-0 c.in_ok-cut.ensures.answers in
     let as_many : eqb (length (strata takes list)) (length takes) ≡ true =
     ap₂ eqb (sym (counted_strata takes list (tables c.cut.new.self) cuts.1)) (sym (ap length c.as_slice.ensures)) ∙ sym c.ask.ensures.fits ∙ c.if-not-ask.false in
-    answers_as (strata_refusal takes list c.args.n) (refusal 13) _ c.of-then-total-n.result
-    (not_total takes list c.args.n (sym c.is_empty.ensures ∙ c.if-is_empty.false) cuts.0 as_many (ne_eqb (total_take takes) c.args.n (λ e. c.if-total-n.true (c.total.ensures ∙ e))))
-    c.of-then-total-n.ensures
+    answers_as (strata_refusal takes list c.args.n) (refusal 13) _ c.of-then-total-from.result
+    (not_total takes list c.args.n (sym c.is_empty.ensures ∙ c.if-is_empty.false) cuts.0 as_many (ne_eqb (total_take takes) c.args.n (λ e. c.if-total-from.true (c.total.ensures ∙ e ∙ sym c.from.ensures))))
+    c.of-then-total-from.ensures
 
 pub returns-clause-answers : goal.returns-clause-answers
 returns-clause-answers g c =
@@ -42,6 +42,6 @@ returns-clause-answers g c =
     let v = tables c.cut.new.self in
     let w = tables c.ask.new.self in
     answers_ok (strata_refusal takes list c.args.n) _ tt
-    (cut_fits takes list c.args.n (sym c.is_empty.ensures ∙ c.if-is_empty.false) cuts.0 as_many (eq-eqb (total_take takes) c.args.n (sym c.total.ensures ∙ c.if-total-n.false)))
+    (cut_fits takes list c.args.n (sym c.is_empty.ensures ∙ c.if-is_empty.false) cuts.0 as_many (eq-eqb (total_take takes) c.args.n (sym c.total.ensures ∙ c.if-total-from.false ∙ c.from.ensures)))
     (subst (λ b. MatchBool b (w ≡ asked v c.as_slice.result.now) (w ≡ v)) c.if-not-ask.false c.ask.ensures.asked
     ∙ ap₂ (λ (x : Tables) (xs : List ℕ). asked x xs) cuts.1 c.as_slice.ensures)

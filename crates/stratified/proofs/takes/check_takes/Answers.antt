@@ -6,17 +6,17 @@ use Rattle.layers.proofs.Standings.{answers_as, answers_ok}
 use Rattle.stratified.proofs.ZeroTakes.{zero_found}
 use Rattle.stratified.proofs.takes.check_takes.Goals as goal
 
-pub returns-then-zero : goal.returns-then-zero
-returns-then-zero c =
+pub returns-then-contains : goal.returns-then-contains
+returns-then-contains c =
     let takes = c.args.takes.now in
     let within : (eqb (length takes) 0 || ltb 64 (length takes)) ≡ false =
     ap₂ (λ (x y : Bool). x || y) (sym c.is_empty.ensures ∙ c.if-is_empty.false) (le-ltb 64 (length takes) c.if-takes-gt-MOST_TAKES.false) in
-    answers_as (allot_refusal takes) (refusal 8) _ c.of-then-zero.result
-    (ap₂ (λ (b d : Bool). first_of (refused_if b 7 ∷ refused_if d 8 ∷ [])) within (zero_found takes c.contains-zero.result c.contains-zero.ensures.cases ∙ c.if-zero.true)) c.of-then-zero.ensures
+    answers_as (allot_refusal takes) (refusal 8) _ c.of-then-contains.result
+    (ap₂ (λ (b d : Bool). first_of (refused_if b 7 ∷ refused_if d 8 ∷ [])) within (zero_found takes c.contains.result c.contains.ensures.cases ∙ c.if-contains.true)) c.of-then-contains.ensures
 
 pub returns : goal.returns
 returns c =
     let takes = c.args.takes.now in
     let within : (eqb (length takes) 0 || ltb 64 (length takes)) ≡ false =
     ap₂ (λ (x y : Bool). x || y) (sym c.is_empty.ensures ∙ c.if-is_empty.false) (le-ltb 64 (length takes) c.if-takes-gt-MOST_TAKES.false) in
-    answers_ok (allot_refusal takes) _ tt (ap₂ (λ (b d : Bool). first_of (refused_if b 7 ∷ refused_if d 8 ∷ [])) within (zero_found takes c.contains-zero.result c.contains-zero.ensures.cases ∙ c.if-zero.false)) tt
+    answers_ok (allot_refusal takes) _ tt (ap₂ (λ (b d : Bool). first_of (refused_if b 7 ∷ refused_if d 8 ∷ [])) within (zero_found takes c.contains.result c.contains.ensures.cases ∙ c.if-contains.false)) tt

@@ -48,7 +48,7 @@ returns-clause-answers g c =
     (ap (λ k. clusters_refusal k list c.args.n) is ∙ cut_fits m list c.args.n (ne_eqb m 0 (positive m c.get-m.ensures.nonzero)) lists.0 cuts.0 (eq-eqb (c.args.n % m) 0 c.if-n-m-ne0.false) few)
     (record {
       clusters = clusters ∙ ap (λ k. cut_clusters k list) (sym is);
-      draws = ap (λ k. c.args.n / k) (sym is);
+      drawn = ap (λ k. c.args.n / k) (sym is);
       few = omega (arith, ap (λ (w : Tables). length (all_parts w)) clusters, cut-length (sample_of (cut_clusters m list)) list (bounds same_cluster list), few);
       small = omega (arith, ap (λ (w : Tables). total w.rows) clusters, (checked list c.args.n lists.0).small);
     })

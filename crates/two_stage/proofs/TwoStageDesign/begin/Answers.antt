@@ -11,7 +11,7 @@ use Rattle.layers.specs.TwoStage.{clusters, first_plan, clusters_refusal, first_
 use Rattle.layers.proofs.Standings.{refused_as, begun_moved}
 use Rattle.series.specs.Of.{plans, tables_of}
 use Rattle.two_stage.specs.declared.Stage.{Stage}
-use Rattle.two_stage.specs.Of.{number_set, stands, stands_in, IsWhole, drawing, CutInto, first_does, opening_refusal, Opened}
+use Rattle.two_stage.specs.Of.{number_set, stands, stands_in, IsIntact, drawing, CutInto, first_does, opening_refusal, Opened}
 use Rattle.two_stage.proofs.Begun.{opening_is, run_is}
 use Rattle.two_stage.proofs.TwoStageDesign.begin.Goals as goal
 
@@ -21,8 +21,8 @@ rest A B m list n =
     let a : Plan = first_plan A (clusters m list) m n in
     first_of (first_refusal (bounds same_cluster list) a ∷ part_refusal B (clusters m list) ∷ product_refusal a B (clusters m list) (length list) ∷ [])
 
-pub returns-in_err-draws-clause-begun : goal.returns-in_err-draws-clause-begun
-returns-in_err-draws-clause-begun g c =
+pub returns-in_err-drawn-clause-begun : goal.returns-in_err-drawn-clause-begun
+returns-in_err-drawn-clause-begun g c =
     let s = c.args.self.now in
     let m = number_set s in
     let list = c.args.list.now in
@@ -33,10 +33,10 @@ returns-in_err-draws-clause-begun g c =
     let a = first_plan A (clusters m list) m n in
     let r = c.from_residual.result in
     let p = err_from_is_err_and r c.from_residual.ensures.1 in
-    let e = c.in_err-draws.field-0.0 in
+    let e = c.in_err-drawn.field-0.0 in
     let none : stands g.A.Design g.B.Design x ≡ no_run =
     ap (λ (z : Stage). stands_in z (plans g.B.Design x.second) (tables_of x.second) (g.A.Design.tree x.first) (g.B.Design.tree x.second.below)) c.cut.ensures.same.stage in
-    let cut = refused_by (clusters_refusal m list n) (λ q. CutInto m q list n x) e c.in_err-draws.ensures.answers in
+    let cut = refused_by (clusters_refusal m list n) (λ q. CutInto m q list n x) e c.in_err-drawn.ensures.answers in
     subst (λ (st : Standing). Began (two_stage_plan m A B list n) r st) (sym none)
     (refused_as _ (or_else (clusters_refusal m list n) (rest A B m list n)) (stage_numerators a B (clusters m list)) (stages_run a B (clusters m list) (length list)) r p.0 e p.1 p.2
     (ap (λ (o : Option Refusal). or_else o (rest A B m list n)) cut))
@@ -51,7 +51,7 @@ returns-in_err-open-clause-begun g c =
     let B = g.B.Design.plan s.second.below in
     let x = c.cut.new.self in
     let y = c.open.new.self in
-    let q = c.in_ok-draws.draws in
+    let q = c.in_ok-drawn.drawn in
     let a = first_plan A (clusters m list) m n in
     let r = c.from_residual-in_err-open.result in
     let p = err_from_is_err_and r c.from_residual-in_err-open.ensures.1 in
@@ -59,11 +59,11 @@ returns-in_err-open-clause-begun g c =
     let none : stands g.A.Design g.B.Design y ≡ no_run =
     ap (λ (z : Stage). stands_in z (plans g.B.Design y.second) (tables_of y.second) (g.A.Design.tree y.first) (g.B.Design.tree y.second.below))
     (c.open.ensures.same.stage ∙ c.cut.ensures.same.stage) in
-    let cut = accepted (clusters_refusal m list n) (λ q. CutInto m q list n x) q c.in_ok-draws.ensures.answers in
+    let cut = accepted (clusters_refusal m list n) (λ q. CutInto m q list n x) q c.in_ok-drawn.ensures.answers in
     let opened = refused_by (opening_refusal (first_does g.A.Design x q) (plans g.B.Design x.second) (tables_of x.second)) (λ _. Opened g.A.Design g.B.Design (first_does g.A.Design x q) x y) e
     c.in_err-open.ensures.answers in
     let is = opening_is A B (g.A.Design.plan x.first) (plans g.B.Design x.second) m list n q (tables_of x.second) (ap (λ d. g.A.Design.plan d) c.cut.ensures.same.first)
-    (ap (λ d. g.B.Design.plan d) c.cut.ensures.same.second) cut.1.clusters cut.1.draws in
+    (ap (λ d. g.B.Design.plan d) c.cut.ensures.same.second) cut.1.clusters cut.1.drawn in
     subst (λ (st : Standing). Began (two_stage_plan m A B list n) r st) (sym none)
     (refused_as _ (or_else (clusters_refusal m list n) (rest A B m list n)) (stage_numerators a B (clusters m list)) (stages_run a B (clusters m list) (length list)) r p.0 e p.1 p.2
     (ap (λ (o : Option Refusal). or_else o (rest A B m list n)) cut.0 ∙ sym is ∙ opened))
@@ -79,15 +79,15 @@ returns-clause-begun g c =
     let x = c.cut.new.self in
     let y = c.open.new.self in
     let z = c.settle.new.self in
-    let q = c.in_ok-draws.draws in
+    let q = c.in_ok-drawn.drawn in
     let a = first_plan A (clusters m list) m n in
-    let cut = accepted (clusters_refusal m list n) (λ q. CutInto m q list n x) q c.in_ok-draws.ensures.answers in
+    let cut = accepted (clusters_refusal m list n) (λ q. CutInto m q list n x) q c.in_ok-drawn.ensures.answers in
     let opened = accepted (opening_refusal (first_does g.A.Design x q) (plans g.B.Design x.second) (tables_of x.second)) (λ _. Opened g.A.Design g.B.Design (first_does g.A.Design x q) x y)
     c.in_ok-open.field-0 c.in_ok-open.ensures.answers in
     let first = ap (λ d. g.A.Design.plan d) c.cut.ensures.same.first in
     let second = ap (λ d. g.B.Design.plan d) c.cut.ensures.same.second in
-    let is = opening_is A B (g.A.Design.plan x.first) (plans g.B.Design x.second) m list n q (tables_of x.second) first second cut.1.clusters cut.1.draws in
-    let run = run_is A B (g.A.Design.plan x.first) (plans g.B.Design x.second) m list n q (tables_of x.second) first second cut.1.clusters cut.1.draws in
+    let is = opening_is A B (g.A.Design.plan x.first) (plans g.B.Design x.second) m list n q (tables_of x.second) first second cut.1.clusters cut.1.drawn in
+    let run = run_is A B (g.A.Design.plan x.first) (plans g.B.Design x.second) m list n q (tables_of x.second) first second cut.1.clusters cut.1.drawn in
     (begun_moved _ (or_else (clusters_refusal m list n) (rest A B m list n)) (stage_numerators a B (clusters m list)) (stages_run a B (clusters m list) (length list)) c.settle.result
-    (IsWhole g.A.Design g.B.Design z) (stands g.A.Design g.B.Design z) (drawing g.A.Design g.B.Design y) (c.settle.ensures.settled opened.1.underway)
+    (IsIntact g.A.Design g.B.Design z) (stands g.A.Design g.B.Design z) (drawing g.A.Design g.B.Design y) (c.settle.ensures.settled opened.1.underway)
     (ap (λ (o : Option Refusal). or_else o (rest A B m list n)) cut.0 ∙ sym is ∙ opened.0) (opened.1.run ∙ ap in_run run)).0

@@ -6,7 +6,7 @@ use Rattle.parts.specs.Running.{all_parts}
 use Rattle.layers.specs.Stages.{in_first, in_second}
 use Rattle.layers.proofs.Stages.{shared_first, shared_second}
 use Rattle.series.specs.Of.{plans, tables_of, standing}
-use Rattle.two_stage.specs.Of.{stands_in, WholeIn}
+use Rattle.two_stage.specs.Of.{stands_in, IntactIn}
 use Rattle.two_stage.specs.Exact.{exact_stages}
 use Rattle.two_stage.specs.declared.Stage.{Stage}
 use Rattle.two_stage.specs.declared.Stage.TheVariants.{First, Second}
@@ -35,7 +35,7 @@ returns-then-eq-2 g c h =
     let B = plans g.B.Design s.second in
     let law = g.met.B.Design.sound s.second.below in
     let stage = in_first_stage s.stage c.if-eq-2.ensures in
-    let f = subst (λ (z : Stage). WholeIn z I J B v st su) stage h in
+    let f = subst (λ (z : Stage). IntactIn z I J B v st su) stage h in
     let l : k < length v.rows = omega (arith, c.if-k-units.false, c.units.ensures) in
     let L = f.drawing.underway.loaded in
     let first = c.in_ok-first.first in
@@ -59,7 +59,7 @@ returns g c h =
     let B = plans g.B.Design s.second in
     let law = g.met.B.Design.sound s.second.below in
     let stage = in_second_stage s.stage c.if-eq.ensures c.if-eq-2.ensures in
-    let f = subst (λ (z : Stage). WholeIn z I J B v st su) stage h in
+    let f = subst (λ (z : Stage). IntactIn z I J B v st su) stage h in
     let l : k < length v.rows = omega (arith, c.if-k-units.false, c.units.ensures) in
     let first = c.in_ok-first.first in
     let within = c.in_ok-within.within in

@@ -4,5 +4,5 @@ use Rattle.two_stage.proofs.first.has_large_product.Goals as goal
 
 pub returns : goal.returns
 returns g c i u =
-    sym (test_is c.args.table.now (g.A.Design.tree c.args.first.now) c.args.k c.part_of-cluster.result c.denominator_of-whole.result c.prescribed.result c.is_too_large.result u
-    (c.part_of-cluster.ensures c.requires) (c.denominator_of-whole.ensures i) c.prescribed.ensures c.is_too_large.ensures)
+    sym (test_is c.args.table.now (g.A.Design.tree c.args.first.now) c.args.k c.part_of-cluster.result c.denominator_at-of_cluster.result c.prescribed.result c.is_too_large.result u
+    (c.part_of-cluster.ensures c.requires) (c.denominator_at-of_cluster.ensures i) c.prescribed.ensures c.is_too_large.ensures)

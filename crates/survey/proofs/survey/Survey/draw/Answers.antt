@@ -39,7 +39,7 @@ returns-clause-after g c st m =
     let leads : throw_now st ≡ Ok c.in_ok-d.d =
     sym (c.in_ok-d.ensures.answer ∙ ap (λ k. thrown k (words g.S.Source s)) ways ∙ ap (λ ws. thrown (ways_now st.run) ws) m.waiting) in
     let means = led (plans g.D.Design s) (g.D.Design.intact s.design) (g.D.Design.intact new) (g.D.Design.tree s.design) (g.D.Design.tree new) s.weights s.running st.run (throw_now st) c.in_ok-d.d c.step.result
-    leads (thrown_below (ways_now st.run) st.words c.in_ok-d.d leads) m.run c.step.ensures.whole c.step.ensures.stepped in
+    leads (thrown_below (ways_now st.run) st.words c.in_ok-d.d leads) m.run c.step.ensures.intact c.step.ensures.stepped in
     record {
       means = record { waiting = c.throw.ensures.words ∙ ap (λ k. left k (words g.S.Source s)) ways ∙ ap (λ ws. left (ways_now st.run) ws) m.waiting; run = subst (λ P. RunMeans P (g.D.Design.intact new) (g.D.Design.tree new) s.weights s.running (draw_after st).run) (sym c.step.ensures.settings) means };
       exact = run_exact (plans g.D.Design s) (g.D.Design.intact new) (g.D.Design.tree new) s.weights s.running (draw_after st).run means (g.met.D.Design.exact new);

@@ -15,7 +15,7 @@ returns-in_err-set_for-clause-answer g c =
     let p = plans g.D.Design c.args.self.now c.args.list.now c.args.n in
     let f = c.in_err-set_for.field-0.0 in
     let j = judged g.D.Design c.begin.new.self (plans g.D.Design c.args.self.now c.args.list.now c.args.n) c.args.list.now c.set_for.new.self c.set_for.result
-    c.in_ok-begin.ensures.begun c.begin.ensures.whole (g.met.D.Design.sound c.args.self.now.design c.args.list.now c.args.n) c.set_for.ensures.answers in
+    c.in_ok-begin.ensures.begun c.begin.ensures.intact (g.met.D.Design.sound c.args.self.now.design c.args.list.now c.args.n) c.set_for.ensures.answers in
     let refused : start_refusal p c.args.list.now ≡ Some (numbered f) =
     refused_by (start_refusal p c.args.list.now) _ f (subst (Answers (start_refusal p c.args.list.now) _) c.in_err-set_for.was j.answers) in
     let same : told c.from_residual-in_err-set_for.result ≡ Err (numbered f) =
@@ -27,7 +27,7 @@ returns-in_err-set_for-clause-after g c =
     let p = plans g.D.Design c.args.self.now c.args.list.now c.args.n in
     let f = c.in_err-set_for.field-0.0 in
     let j = judged g.D.Design c.begin.new.self (plans g.D.Design c.args.self.now c.args.list.now c.args.n) c.args.list.now c.set_for.new.self c.set_for.result
-    c.in_ok-begin.ensures.begun c.begin.ensures.whole (g.met.D.Design.sound c.args.self.now.design c.args.list.now c.args.n) c.set_for.ensures.answers in
+    c.in_ok-begin.ensures.begun c.begin.ensures.intact (g.met.D.Design.sound c.args.self.now.design c.args.list.now c.args.n) c.set_for.ensures.answers in
     let refused : start_refusal p c.args.list.now ≡ Some (numbered f) =
     refused_by (start_refusal p c.args.list.now) _ f (subst (Answers (start_refusal p c.args.list.now) _) c.in_err-set_for.was j.answers) in
     let ended = ap (λ o. begun o (first_run p c.args.list.now c.args.n)) (sym refused) in
@@ -40,7 +40,7 @@ pub returns-clause-answer : goal.returns-clause-answer
 returns-clause-answer g c =
     let p = plans g.D.Design c.args.self.now c.args.list.now c.args.n in
     let j = judged g.D.Design c.begin.new.self (plans g.D.Design c.args.self.now c.args.list.now c.args.n) c.args.list.now c.set_for.new.self c.set_for.result
-    c.in_ok-begin.ensures.begun c.begin.ensures.whole (g.met.D.Design.sound c.args.self.now.design c.args.list.now c.args.n) c.set_for.ensures.answers in
+    c.in_ok-begin.ensures.begun c.begin.ensures.intact (g.met.D.Design.sound c.args.self.now.design c.args.list.now c.args.n) c.set_for.ensures.answers in
     let a = accepted (start_refusal p c.args.list.now) _ tt (subst (Answers (start_refusal p c.args.list.now) _) c.in_ok-set_for.was j.answers) in
     ap (λ o. answer o tt) (sym a.0)
 
@@ -51,11 +51,11 @@ returns-clause-after g c =
     let p = P list c.args.n in
     let new = c.begin.new.self in
     let j = judged g.D.Design c.begin.new.self (plans g.D.Design c.args.self.now c.args.list.now c.args.n) c.args.list.now c.set_for.new.self c.set_for.result
-    c.in_ok-begin.ensures.begun c.begin.ensures.whole (g.met.D.Design.sound c.args.self.now.design c.args.list.now c.args.n) c.set_for.ensures.answers in
+    c.in_ok-begin.ensures.begun c.begin.ensures.intact (g.met.D.Design.sound c.args.self.now.design c.args.list.now c.args.n) c.set_for.ensures.answers in
     let a = accepted (start_refusal p list) _ tt (subst (Answers (start_refusal p list) _) c.in_ok-set_for.was j.answers) in
     let runs : RunMeans P (g.D.Design.intact new) (g.D.Design.tree new) c.set_for.new.self true (begun (start_refusal p list) (first_run p list c.args.n)) =
     subst (λ o. RunMeans P (g.D.Design.intact new) (g.D.Design.tree new) c.set_for.new.self true (begun o (first_run p list c.args.n))) (sym a.0)
-    (record { accepted = a.0; intact = c.begin.ensures.whole; stands = j.stands; weighed = a.1 }) in
+    (record { accepted = a.0; intact = c.begin.ensures.intact; stands = j.stands; weighed = a.1 }) in
     record {
       means = record { waiting = refl; run = subst (λ Q. RunMeans Q (g.D.Design.intact new) (g.D.Design.tree new) c.set_for.new.self true (begun (start_refusal p list) (first_run p list c.args.n))) (sym c.begin.ensures.settings) runs };
       exact = run_exact P (g.D.Design.intact new) (g.D.Design.tree new) c.set_for.new.self true (begun (start_refusal p list) (first_run p list c.args.n)) runs (g.met.D.Design.exact new);
@@ -66,6 +66,6 @@ returns-clause-fair g c =
     let list = c.args.list.now in
     let p = plans g.D.Design c.args.self.now list c.args.n in
     let j = judged g.D.Design c.begin.new.self (plans g.D.Design c.args.self.now c.args.list.now c.args.n) c.args.list.now c.set_for.new.self c.set_for.result
-    c.in_ok-begin.ensures.begun c.begin.ensures.whole (g.met.D.Design.sound c.args.self.now.design c.args.list.now c.args.n) c.set_for.ensures.answers in
+    c.in_ok-begin.ensures.begun c.begin.ensures.intact (g.met.D.Design.sound c.args.self.now.design c.args.list.now c.args.n) c.set_for.ensures.answers in
     let a = accepted (start_refusal p list) _ tt (subst (Answers (start_refusal p list) _) c.in_ok-set_for.was j.answers) in
     starts_fair list p (g.met.D.Design.sound c.args.self.now.design list c.args.n) a.0

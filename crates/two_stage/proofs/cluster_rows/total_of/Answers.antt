@@ -3,7 +3,7 @@ use borrow.Author.Tests.{tests}
 use Rattle.std.proofs.lemmas.Iterator.{YieldsList-from_slice, YieldsList-from_map}
 use Rattle.std.proofs.lemmas.Iterator.Consumers.{YieldsList-at, sum_by_from_yields_List}
 use Rattle.parts.proofs.Totals.{sum_listed}
-use Rattle.two_stage.proofs.heads.total_of.Goals as goal
+use Rattle.two_stage.proofs.cluster_rows.total_of.Goals as goal
 
 pub returns : goal.returns
 returns c =

@@ -7,7 +7,7 @@ use Rattle.layers.specs.TwoStage.{row_for}
 use Rattle.series.specs.Tables.{tables}
 use Rattle.series.proofs.Tabled.{rising, counted, bounded}
 use Rattle.two_stage.proofs.Sizes.{total_part, heads_more}
-use Rattle.two_stage.proofs.heads.Heads.fill.Goals as goal
+use Rattle.two_stage.proofs.cluster_rows.ClusterRows.fill.Goals as goal
 
 pub row_of-requires-clause-some : goal.row_of-requires-clause-some
 row_of-requires-clause-some c =

@@ -1,6 +1,6 @@
 use Rattle.std.proofs.Common.{ltb, length, sym, ap, ◌∙◌, arith}
 use Rattle.series.proofs.Tabled.{counted, shifted}
-use Rattle.series.proofs.table.Table.has_part.Goals as goal
+use Rattle.series.proofs.table.PartTable.has_part.Goals as goal
 
 pub returns : goal.returns
 returns c =

@@ -1,6 +1,6 @@
 use Rattle.std.proofs.Common.{arith}
 use Rattle.series.proofs.Tabled.{bounded}
-use Rattle.series.proofs.table.Table.rows_of.Goals as goal
+use Rattle.series.proofs.table.PartTable.rows_of.Goals as goal
 
 pub returns-clause-forward : goal.returns-clause-forward
 returns-clause-forward c =

@@ -3,7 +3,7 @@ use Rattle.std.proofs.lemmas.List.{get_or_past}
 use Rattle.parts.specs.Running.{first_row_of}
 use Rattle.series.specs.Tables.{tables}
 use Rattle.series.proofs.Tabled.{counted}
-use Rattle.series.proofs.table.Table.part.Goals as goal
+use Rattle.series.proofs.table.PartTable.part.Goals as goal
 
 pub rows_of-requires : goal.rows_of-requires
 rows_of-requires c = omega (arith, c.if-j-count.true, c.count.ensures, counted c.args.self.now)

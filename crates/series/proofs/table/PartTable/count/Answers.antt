@@ -1,6 +1,6 @@
 use Rattle.std.proofs.Common.{◌∙◌}
 use Rattle.series.proofs.Tabled.{counted}
-use Rattle.series.proofs.table.Table.count.Goals as goal
+use Rattle.series.proofs.table.PartTable.count.Goals as goal
 
 pub returns : goal.returns
 returns c = c.len.ensures.len ∙ counted c.args.self.now

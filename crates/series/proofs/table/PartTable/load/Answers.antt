@@ -5,7 +5,7 @@ use Rattle.parts.specs.Parts.{bounds}
 use Rattle.parts.proofs.Cuts.{rising_bounds}
 use Rattle.parts.proofs.Places.{rising_zero}
 use Rattle.series.specs.Kinds.{alike}
-use Rattle.series.proofs.table.Table.load.Goals as goal
+use Rattle.series.proofs.table.PartTable.load.Goals as goal
 
 pub overflow_sub-count : goal.overflow_sub-count
 overflow_sub-count c =

@@ -6,7 +6,7 @@ ghost use Rattle.series.specs.Tables.{tables};
 
 use bounded::BoundedVec;
 use design::row::Row;
-use series::table::Table;
+use series::table::PartTable;
 use std::alloc::{AllocError, Global};
 
 /// The most clusters that a list may have.
@@ -14,7 +14,7 @@ pub const MOST_CLUSTERS: usize = 128;
 
 /// The rows of a list's clusters, on which the first design runs.
 #[derive(Drop)]
-pub struct Heads {
+pub struct ClusterRows {
     rows: BoundedVec<Row, MOST_CLUSTERS>,
 }
 
@@ -23,7 +23,7 @@ fn total_of(rows: &[Row]) -> u64
     requires { length rows.now ≤ 1024 }
     ensures { result ≡ total rows.now }
 {
-    rows.iter().map(|row| row.size as u64).sum()
+    rows.iter().map(|row| u64::from(row.size)).sum()
 }
 
 // The row for a cluster with these rows.
@@ -37,17 +37,17 @@ fn row_of(rows: &[Row]) -> Row
     Row::new(rows[0].stratum, rows[0].cluster, size)
 }
 
-impl Heads {
+impl ClusterRows {
     /// No rows, and room for those of every list that is accepted.
     pub fn new(heap: Global) -> Result<Self, AllocError>
         ensures { IfOk result (λ h. h.rows ≡ []) }
     {
         let rows = BoundedVec::new(heap)?;
-        Ok(Heads { rows })
+        Ok(ClusterRows { rows })
     }
 
     /// Holds the row for each part of the table.
-    pub fn fill(&mut self, table: &Table)
+    pub fn fill(&mut self, table: &PartTable)
         requires small { total (tables table.now).rows ≤ 10240000 }
         requires few { length (all_parts (tables table.now)) ≤ 128 }
         ensures { self.new.rows ≡ map cluster_row (all_parts (tables table.now)) }

@@ -2,7 +2,7 @@ use Rattle.std.proofs.Common.{arith}
 use Rattle.weights.proofs.Multiples.{lcm_over}
 use Rattle.weights.proofs.Prescribed.{scale_fits, scale_passes}
 use Rattle.weights.specs.Scale.{lcm}
-use Rattle.weights.proofs.scale.common_multiple.Goals as goal
+use Rattle.weights.proofs.scale.least_common_multiple.Goals as goal
 
 pub returns-then-multiple-gt-LARGEST_SCALE-clause-answers : goal.returns-then-multiple-gt-LARGEST_SCALE-clause-answers
 returns-then-multiple-gt-LARGEST_SCALE-clause-answers c p q =
