@@ -13,7 +13,8 @@ use Rattle.design.specs.Plans.{Plans, tree_of, denominator_of, outcome, SoundPla
 use Rattle.parts.specs.Series.{plan_for, joined, series, chosen}
 use Rattle.parts.specs.Bounds.{Accepted}
 use Rattle.parts.specs.Copying.{overwritten}
-use Rattle.parts.specs.Running.{Tables, all_parts, first_row_of, part_at, is_chosen, so_far, ahead, run_over, has_present, standing_by, standing_of, run_from, NextChosen, at_stage, with_taken, Undisturbed, Loaded, Begins, NoneFrom, Within, Present, Underway, resumed}
+use Rattle.parts.specs.Running.{Tables, all_parts, first_row_of, part_at, is_chosen, so_far, ahead, run_over, has_present, standing_by, standing_of, run_from, NextChosen, Undisturbed, Loaded, Begins, NoneFrom, Within, Present, Underway, resumed}
+use Rattle.parts.proofs.Tables.{at_stage, with_taken}
 use Rattle.parts.proofs.Places.{rising_mono, cut_done}
 use Rattle.parts.proofs.Seats.{split, bounded, rows_of, end_of}
 use Rattle.parts.proofs.Shares.{accepted_at}

@@ -1,4 +1,5 @@
 pub mod Chains
+pub mod Tables
 pub mod Holds
 pub mod Cuts
 pub mod Places

@@ -11,7 +11,8 @@ use Rattle.design.specs.Plans.{Plans, fraction, numerator_of, denominator_of, sh
 use Rattle.parts.specs.Series.{plan_for, joined, series, denominators, numerators}
 use Rattle.parts.specs.Bounds.{Steps, Rising}
 use Rattle.parts.specs.Seats.{Seated}
-use Rattle.parts.specs.Running.{Tables, all_parts, first_row_of, part_at, is_chosen, so_far, ahead, gone_on, Begins, run_over, has_present, standing_by, standing_of, Within, Present, Underway, Settled, Intact, resumed}
+use Rattle.parts.specs.Running.{Tables, all_parts, first_row_of, part_at, is_chosen, so_far, ahead, Begins, run_over, has_present, standing_by, standing_of, Within, Present, Underway, Settled, Intact, resumed}
+use Rattle.parts.proofs.Tables.{gone_on}
 use Rattle.parts.proofs.Seats.{chain, apart_after, rows_of, seat_row, seat_unit}
 use Rattle.parts.proofs.Series.{X, apart_chosen, accepted_chosen}
 use Rattle.parts.proofs.Shares.{accepted_at, share_over, share_behind, share_present, share_ahead}

@@ -1,5 +1,6 @@
 -- A design tried on every part of a list.
 use Rattle.std.proofs.Common.{◌≡◌, ℕ, ◌+◌, ◌-◌, ◌<◌, ◌≤◌, ◌⊎◌, List, length, get_or, drop, Some, None, Ok, Err, Option, Result, sym, refl, ap, ◌∙◌, subst, ap₂, inl, inr, arith}
+use Rattle.std.specs.Prelude.{slice_index_or}
 use Rattle.std.specs.Result.{result_and}
 use Rattle.std.proofs.lemmas.Bool.{cases_lt}
 use Rattle.outcomes.proofs.Trees.{lawful_ways}
@@ -12,13 +13,22 @@ use Rattle.design.specs.Plans.{Plans, numerator_of, denominator_of, fraction, sh
 use Rattle.parts.specs.Series.{plan_for, prescribed, refused_or, part_refusal}
 use Rattle.parts.specs.Bounds.{Rising}
 use Rattle.parts.specs.Seats.{Seated}
-use Rattle.parts.specs.Running.{Tables, all_parts, sample_of, first_row_of, part_at, no_share, Begins, Ready}
+use Rattle.parts.specs.Running.{Tables, all_parts, sample_of, first_row_of, part_at, no_share, AtPart, Begins, Ready}
 use Rattle.parts.specs.Copying.{Fresh, overwritten}
-use Rattle.parts.specs.Trying.{with_shares, WrittenIn, Tried, Trial, TriedFrom}
+use Rattle.parts.specs.Trying.{with_shares, WrittenIn, Tried}
 use Rattle.parts.proofs.Places.{rising_zero, rising_last, cut_done}
 use Rattle.parts.proofs.Seats.{split, rows_of, seat_unit}
 use Rattle.parts.proofs.Copying.{written_in, written_past}
 use Rattle.parts.proofs.Lawfuls.{all_accepted}
+
+-- the parts from part i on were tried, the last first, and accepted: their prescribed shares are noted, and the design has just begun on part i
+pub record Trial (I : Type 0) (B : Plans) (v : Tables) (shares : List Fraction) (i : ℕ) (st : Standing) : Type 0 where
+  pub shares_are : (k : ℕ) → first_row_of v i ≤ k → k < length v.rows → slice_index_or shares k no_share ≡ prescribed B (all_parts v) k
+  pub at_part : AtPart I B v i st
+
+-- the answer of the parts from part i on: their first refusal, if there is one
+abbrev pub TriedFrom : {U : Type 0} → Type 0 → Plans → Tables → List Fraction → ℕ → Standing → Result U Fault → Type 0
+TriedFrom I B v shares i st r = Answers (part_refusal B (drop i (all_parts v))) (λ _. Trial I B v shares i st) r
 
 -- an answer whose value says more
 answers_more : {U : Type 0} (o : Option Refusal) (P Q : U → Type 0) (r : Result U Fault) → (o ≡ None → (u : U) → P u → Q u) → Answers o P r → Answers o Q r

@@ -92,43 +92,6 @@ pub record NextChosen (flags : List Bool) (j r : ℕ) : Type 0 where
   pub passed : (i : ℕ) → j ≤ i → i < r → slice_index_or flags i false ≡ false
   pub found : r < length flags → slice_index_or flags r false ≡ true
 
--- the same tables, with the present part j, in which the design has just begun; with other taken units; and gone on in the present part
-abbrev pub at_stage : Tables → ℕ → Tables
-at_stage v j = record {
-  rows = v.rows;
-  bounds = v.bounds;
-  samples = v.samples;
-  shares = v.shares;
-  chosen = v.chosen;
-  taken = v.taken;
-  stage = j;
-  moved = false;
-}
-
-abbrev pub with_taken : Tables → List Bool → Tables
-with_taken v taken = record {
-  rows = v.rows;
-  bounds = v.bounds;
-  samples = v.samples;
-  shares = v.shares;
-  chosen = v.chosen;
-  taken = taken;
-  stage = v.stage;
-  moved = v.moved;
-}
-
-abbrev pub gone_on : Tables → Tables
-gone_on v = record {
-  rows = v.rows;
-  bounds = v.bounds;
-  samples = v.samples;
-  shares = v.shares;
-  chosen = v.chosen;
-  taken = v.taken;
-  stage = v.stage;
-  moved = true;
-}
-
 -- the call is accepted, S then holds, and the run that stands is as it was
 abbrev pub Undisturbed : {U : Type 0} → Result U Fault → Type 0 → Standing → Standing → Type 0
 Undisturbed (Ok x) S st old = S × (st ≡ old)

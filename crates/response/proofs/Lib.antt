@@ -10,3 +10,4 @@ mod Draws
 mod Ends
 mod Printing
 mod OneResponses
+mod SomeResponses

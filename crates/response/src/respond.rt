@@ -1,7 +1,7 @@
 ghost use Rattle.std.specs.Prelude.{IfOk, string_bytes};
 ghost use Rattle.frame_file.specs.Written.{Fits};
 ghost use Rattle.response.specs.Failures.{IsPrinted, Prints};
-ghost use Rattle.response.specs.Laws.{OneResponse};
+ghost use Rattle.response.specs.Laws.{OneResponse, SomeResponse};
 ghost use Rattle.response.specs.Responses.{PrintsFor, Responds};
 
 use crate::designing::design_for;
@@ -61,7 +61,8 @@ pub fn respond(heap: Global, input: &[u8]) -> Result<String, AllocError>
     }
 }
 
-/// A file has no two responses.
+/// A file has no two responses, and every frame in range has one.
 pub fn responses_stand()
-    ensures { OneResponse }
+    ensures one_response { OneResponse }
+    ensures some_response { SomeResponse }
 {}

@@ -2,6 +2,7 @@
 #![tactic(auto)]
 
 use design::design::Design;
+use design::limits::MOST_ROWS;
 use design::row::Row;
 use pivotal::Pivotal;
 use poisson::Poisson;
@@ -20,6 +21,15 @@ struct Throw {
 const MOST_ROADS: u32 = 1000;
 
 const MOST_THROWS: u32 = 2000;
+
+// The longest list: its sample size, the size of each row, and the generator's seed and words.
+const LONG_SAMPLE: u32 = 24;
+
+const LONG_SIZE: u32 = 9999;
+
+const SEED: u32 = 12_345;
+
+const WORDS: u32 = 4000;
 
 // Throws until the run has come to its outcome; `next` gives each throw from its ways.
 fn throw_to_the_end<D: Design, F: FnMut(u32) -> anyhow::Result<u32>>(
@@ -69,8 +79,8 @@ fn raise(road: &mut Vec<Throw>) -> anyhow::Result<bool> {
 
 fn print_units(rt: &impl Print, design: &impl Design) -> anyhow::Result<()> {
     print!(rt; " takes")?;
-    for k in 0..1024 {
-        if let Ok(true) = design.taken(k) {
+    for k in 0..MOST_ROWS as u32 {
+        if design.taken(k) == Ok(true) {
             print!(rt; " {k}")?;
         }
     }
@@ -78,6 +88,16 @@ fn print_units(rt: &impl Print, design: &impl Design) -> anyhow::Result<()> {
     Ok(())
 }
 
+fn print_road(rt: &impl Print, road: &[Throw]) -> anyhow::Result<()> {
+    for throw in road.iter() {
+        let d = throw.d;
+        let ways = throw.ways;
+        print!(rt; " {d}/{ways}")?;
+    }
+    Ok(())
+}
+
+// Every road through one list by one design.
 fn walk<D: Design>(
     rt: &HostRuntime,
     name: &str,
@@ -89,11 +109,7 @@ fn walk<D: Design>(
     for _ in 0..MOST_ROADS {
         follow(design, list, n, &mut road)?;
         print!(rt; "{name}")?;
-        for throw in road.iter() {
-            let d = throw.d;
-            let ways = throw.ways;
-            print!(rt; " {d}/{ways}")?;
-        }
+        print_road(rt, &road)?;
         print_units(rt, design)?;
         if !raise(&mut road)? {
             break;
@@ -113,8 +129,8 @@ fn walk_all(rt: &HostRuntime, list: &[Row], n: u32) -> anyhow::Result<()> {
 
 // One draw from the longest list, by the words of the generator.
 fn draw_long<D: Design>(rt: &HostRuntime, name: &str, design: &mut D) -> anyhow::Result<()> {
-    let mut source = Xorshift32::new(12_345, 4000);
-    design.begin(&[Row::sized(9999); 1024], 24)?;
+    let mut source = Xorshift32::new(SEED, WORDS);
+    design.begin(&[Row::sized(LONG_SIZE); MOST_ROWS], LONG_SAMPLE)?;
     let mut throws = 0u32;
     throw_to_the_end(design, |ways| {
         throws = throws.saturating_add(1);
@@ -130,7 +146,7 @@ fn run(rt: &HostRuntime) -> anyhow::Result<()> {
     walk_all(rt, &[Row::sized(1), Row::sized(3)], 1)?;
     walk_all(rt, &[Row::sized(3), Row::sized(3)], 2)?;
     walk_all(rt, &[Row::sized(1), Row::sized(2), Row::sized(1)], 2)?;
-    println!(rt; "1024 rows, sample of 24")?;
+    println!(rt; "{MOST_ROWS} rows, sample of {LONG_SAMPLE}")?;
     draw_long(rt, "systematic", &mut Systematic::new(rt.alloc())?)?;
     draw_long(rt, "pivotal", &mut Pivotal::new(rt.alloc())?)?;
     draw_long(rt, "Poisson", &mut Poisson::new(rt.alloc())?)

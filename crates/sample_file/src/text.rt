@@ -7,7 +7,7 @@ use frame_file::fault::FileFault;
 use std::alloc::AllocError;
 use std::fmt::Write;
 use totals::money::Money;
-use totals::table::{CELLS, Table};
+use totals::table::Table;
 use totals::total::Total;
 
 /// Appends the line of the taken unit k, with its share.
@@ -26,18 +26,12 @@ pub fn write_scale(out: &mut String, scale: u32) -> Result<(), AllocError>
     writeln!(out, "scale,{scale}")
 }
 
-/// Appends the line of a total of so many entries, under its name.
-pub fn write_total<T: Total>(
-    out: &mut String,
-    name: &str,
-    total: &T,
-    width: usize,
-) -> Result<(), AllocError>
-    requires { width ≡ T.width }
+/// Appends the line of a total, under its name.
+pub fn write_total<T: Total>(out: &mut String, name: &str, total: &T) -> Result<(), AllocError>
     ensures { OnOk result (string_bytes out.new ≡ string_bytes out.old ++ total_line name.now (T.entries total.now)) }
 {
     out.push_str(name)?;
-    for i in 0..width {
+    for i in 0..T::WIDTH {
         let entry = total.entry(i).unwrap();
         write!(out, ",{entry}")?;
     }
@@ -54,8 +48,8 @@ pub fn write_report(
     ensures { OnOk result (string_bytes out.new ≡ string_bytes out.old ++ report_text scale (⟦<Money as Total>⟧.entries money.now) (⟦<Table as Total>⟧.entries table.now)) }
 {
     write_scale(out, scale)?;
-    write_total(out, "money", money, 1)?;
-    write_total(out, "table", table, CELLS)
+    write_total(out, "money", money)?;
+    write_total(out, "table", table)
 }
 
 /// Appends the line of a refusal.

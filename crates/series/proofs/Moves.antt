@@ -12,7 +12,8 @@ use Rattle.outcomes.proofs.Trees.{lawful_ways}
 use Rattle.design.specs.Design.{Standing, no_run, in_run, Began, Stepped, ways_of, below}
 use Rattle.design.specs.declared.fault.Fault.{Fault}
 use Rattle.parts.specs.Copying.{Over, outcome_of, overwritten}
-use Rattle.parts.specs.Running.{Tables, first_row_of, part_at, so_far, standing_of, run_from, NextChosen, at_stage, gone_on, with_taken, Undisturbed, Loaded, Ready, NoneFrom, Present, Underway, is_chosen}
+use Rattle.parts.specs.Running.{Tables, first_row_of, part_at, so_far, standing_of, run_from, NextChosen, Undisturbed, Loaded, Ready, NoneFrom, Present, Underway, is_chosen}
+use Rattle.parts.proofs.Tables.{at_stage, gone_on, with_taken}
 use Rattle.design.specs.Plans.{Plans, nothing, SoundPlans}
 use Rattle.parts.specs.Series.{plan_for}
 use Rattle.parts.proofs.Entering.{entered_part, Noted, noted}

@@ -10,7 +10,8 @@ use Rattle.parts.specs.Copying.{Fresh, overwritten}
 use Rattle.parts.specs.Running.{Tables, all_parts, first_row_of, part_at, no_share, Ready}
 use Rattle.design.specs.Plans.{Plans, share_of, SoundPlans}
 use Rattle.parts.specs.Series.{plan_for, part_refusal}
-use Rattle.parts.specs.Trying.{Tried, TriedFrom, with_shares}
+use Rattle.parts.specs.Trying.{Tried, with_shares}
+use Rattle.parts.proofs.Trying.{TriedFrom}
 use Rattle.parts.proofs.Trying.{tried_part, trial_end}
 
 pub begun_ok : {U : Type 0} (r : Result U Fault) (a : Plan) (st : Standing) → true ≡ is_ok r → Began a r st → (u : U) × Began a (Ok u) st

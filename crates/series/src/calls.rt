@@ -1,5 +1,6 @@
 ghost use Rattle.std.specs.Prelude.{◌≡◌, ◌<◌, length, IfOk};
 ghost use Rattle.design.specs.Design.{Shared, Stepped, ways_of};
+ghost use Rattle.parts.specs.Seats.{Seated};
 ghost use Rattle.series.specs.Of.{IsIntact, IsNew, SameList, plans, standing, tables_of};
 ghost use Rattle.series.specs.Calls.{noted_share};
 
@@ -68,6 +69,19 @@ impl<D: Design> Series<D> {
         Fraction::new(numerator, share.denominator)
     }
 
+    /// The inclusion share of the unit k in the present tree, where it is known to lie in part j.
+    pub fn share_in(&self, k: u32, j: usize) -> Result<Fraction, Fault>
+        requires listed { k < length (tables_of self.now).rows }
+        requires seated { Seated (tables_of self.now).bounds k j }
+        ensures { IsIntact D.Design self.now → Shared (standing D.Design self.now) k result }
+    {
+        if j == self.table.stage && self.table.moved {
+            self.below.share(k - self.table.first_row(j))
+        } else {
+            Ok(self.share_noted(k as usize, j))
+        }
+    }
+
     /// The inclusion share of the unit k in the present tree.
     pub fn share(&self, k: u32) -> Result<Fraction, Fault>
         ensures { IsIntact D.Design self.now → Shared (standing D.Design self.now) k result }
@@ -75,11 +89,6 @@ impl<D: Design> Series<D> {
         if k as usize >= self.table.units() {
             return Err(Fault::of(Reason::NoSuchUnit));
         }
-        let j = self.table.part_of(k);
-        if j == self.table.stage && self.table.moved {
-            self.below.share(k - self.table.first_row(j))
-        } else {
-            Ok(self.share_noted(k as usize, j))
-        }
+        self.share_in(k, self.table.part_of(k))
     }
 }

@@ -72,7 +72,7 @@ Follows d w old new next = (st : State) → Means d w old st → ComesTo d w old
 -- ---- totals
 -- the kind of a total, and the total itself
 abbrev pub kind_of : {T R : Type 0} → Total.Ghosts T R → Kind R
-kind_of t = record { is_lawful = t.is_lawful; row = t.row; width = t.width }
+kind_of t = record { is_lawful = t.is_lawful; row = t.row; width = t.WIDTH }
 
 abbrev pub tally_of : {T R : Type 0} → Total.Ghosts T R → T → Tally
 tally_of t total = record { entries = t.entries total; additions = t.additions total }

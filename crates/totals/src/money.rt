@@ -53,7 +53,9 @@ impl Total for Money {
 
     ghost REACH = { 1000000 };
 
-    ghost width = { 1 };
+    const WIDTH: usize = 1;
+
+    ghost WIDTH = { 1 };
 
     ghost is_lawful = { money_lawful };
 

@@ -1,4 +1,4 @@
-ghost use Rattle.std.specs.Prelude.{◌≡◌, ℕ, ◌*◌, ◌<◌, ◌≤◌, pos, length, replicate, unsigned_abs, slice_index_or};
+ghost use Rattle.std.specs.Prelude.{◌≡◌, ◌*◌, ◌<◌, ◌≤◌, length};
 ghost use Rattle.std.proofs.Common.{rules, lit≤};
 ghost use Rattle.std.proofs.lemmas.Grind.{common_steps};
 ghost use Rattle.totals.specs.Kinds.{cell_lawful, cell_row};
@@ -54,7 +54,9 @@ impl Total for Table {
 
     ghost REACH = { 1 };
 
-    ghost width = { 6 };
+    const WIDTH: usize = CELLS;
+
+    ghost WIDTH = { 6 };
 
     ghost is_lawful = { λ cell. cell_lawful cell.at };
 

@@ -17,7 +17,10 @@ pub trait Total {
     ghost REACH: { ℕ };
 
     /// How many numbers a row has, and how many entries a total.
-    ghost width: { ℕ };
+    const WIDTH: usize;
+
+    /// The same number, for clauses, as with the reach.
+    ghost WIDTH: { ℕ };
 
     /// Which readings are lawful.
     ghost is_lawful: { Self.Reading → Bool };
@@ -56,11 +59,11 @@ pub trait Total {
     ghost small: { REACH ≤ 1000000 };
 
     /// A row has at least one number.
-    ghost some: { 1 ≤ width };
+    ghost some: { 1 ≤ WIDTH };
 
     /// The row of a lawful reading has so many numbers as the kind fixes, none above the reach in magnitude.
-    ghost rows: { (reading : Self.Reading) → is_lawful reading ≡ true → IsRow width REACH (row reading) };
+    ghost rows: { (reading : Self.Reading) → is_lawful reading ≡ true → IsRow WIDTH REACH (row reading) };
 
     /// A total has as many entries as a row has numbers.
-    ghost wide: { (total : Self) → length (entries total) ≡ width };
+    ghost wide: { (total : Self) → length (entries total) ≡ WIDTH };
 }

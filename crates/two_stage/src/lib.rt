@@ -194,7 +194,7 @@ impl<A: Design, B: Design> Design for TwoStage<A, B> {
         }
         // The first stage has come to its outcome: a taken cluster has the whole as its share, and a unit of any other has 0 in the series.
         let taken = Fraction::new(first.denominator, first.denominator);
-        let within = self.second.share(k)?;
+        let within = self.second.share_in(k, cluster)?;
         Ok(taken.times(within))
     }
 }

@@ -1,5 +1,6 @@
 use Rattle.std.proofs.Common.{◌+◌, arith}
-use Rattle.parts.specs.Running.{with_taken, run_from, so_far}
+use Rattle.parts.specs.Running.{run_from, so_far}
+use Rattle.parts.proofs.Tables.{with_taken}
 use Rattle.series.specs.Of.{IsUnderway, tables_of, standing}
 use Rattle.series.proofs.Moves.{passing, moved_trans, same_taken}
 use Rattle.series.proofs.Series.pass_on.Goals as goal

@@ -1,6 +1,7 @@
 use Rattle.std.proofs.Common.{◌≡◌, true, cond, sym, ap, ◌∙◌, subst, arith}
 use Rattle.design.specs.Design.{Stepped, ways_of}
-use Rattle.parts.specs.Running.{Underway, gone_on, has_present, standing_of}
+use Rattle.parts.specs.Running.{Underway, has_present, standing_of}
+use Rattle.parts.proofs.Tables.{gone_on}
 use Rattle.design.specs.Plans.{Plans}
 use Rattle.parts.proofs.Stepping.{ways_are, present_intact, stepped_down}
 use Rattle.series.specs.Of.{IsIntact, plans, standing, tables_of}

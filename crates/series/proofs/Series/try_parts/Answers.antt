@@ -1,6 +1,7 @@
 use Rattle.std.proofs.Common.{◌≡◌, ◌+◌, ◌-◌, ◌<◌, length, sym, refl, ap, ◌∙◌, subst, arith}
 use Rattle.parts.specs.Running.{Tables}
-use Rattle.parts.specs.Trying.{TriedFrom, with_shares}
+use Rattle.parts.specs.Trying.{with_shares}
+use Rattle.parts.proofs.Trying.{TriedFrom}
 use Rattle.parts.proofs.Trying.{trial_start, trial_step}
 use Rattle.series.specs.Of.{plans, tables_of}
 use Rattle.series.proofs.Tabled.{rising, counted}

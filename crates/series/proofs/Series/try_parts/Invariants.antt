@@ -1,5 +1,6 @@
 use Rattle.std.proofs.Common.{◌≡◌}
-use Rattle.parts.specs.Trying.{with_shares, TriedFrom}
+use Rattle.parts.specs.Trying.{with_shares}
+use Rattle.parts.proofs.Trying.{TriedFrom}
 use Rattle.series.specs.Of.{plans, tables_of}
 use Rattle.series.proofs.Series.try_parts.Given as goal
 

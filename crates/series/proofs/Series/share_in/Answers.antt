@@ -1,12 +1,12 @@
-use Rattle.std.proofs.Common.{◌-◌, ◌<◌, cond, ltb, length, Ok, sym, ◌∙◌, subst, ap, arith}
+use Rattle.std.proofs.Common.{◌-◌, cond, ltb, Ok, sym, ◌∙◌, subst, ap}
 use Rattle.design.specs.Design.{Shared}
 use Rattle.design.specs.declared.fraction.Fraction.{Fraction}
 use Rattle.design.specs.Plans.{fraction}
 use Rattle.parts.specs.Running.{is_chosen, so_far}
 use Rattle.parts.proofs.Stepping.{share_here, share_aside, share_unmoved, seat_intact}
 use Rattle.series.specs.Of.{tables_of, standing}
-use Rattle.series.proofs.Series.share.Goals as goal
-use Rattle.series.proofs.Series.share.Goals.{else-j-self-via-then-j-self+else-self, else-j-self-via-else-j-self}
+use Rattle.series.proofs.Series.share_in.Goals as goal
+use Rattle.series.proofs.Series.share_in.Goals.{else-j-self-via-then-j-self+else-self, else-j-self-via-else-j-self}
 
 pub returns-then-self : goal.returns-then-self
 returns-then-self g c h =
@@ -15,11 +15,10 @@ returns-then-self g c h =
     let I = g.D.Design.intact s.below in
     let st = g.D.Design.tree s.below in
     let B = g.D.Design.plan s.below in
-    let l : c.args.k < length v.rows = omega (arith, c.if-k-units.false, c.units.ensures) in
-    let seat = c.part_of-j.ensures l in
-    share_here B (g.met.D.Design.sound s.below) v I c.args.k c.part_of-j.result seat st c.share.result h.underway c.if-j-self.true
+    let seat = c.requires.seated in
+    share_here B (g.met.D.Design.sound s.below) v I c.args.k c.args.j seat st c.share.result h.underway c.if-j-self.true
     (subst (λ i. Shared st (c.args.k - i) c.share.result) c.first_row.ensures
-    (c.share.ensures (seat_intact I B v st h.underway c.args.k c.part_of-j.result seat c.if-j-self.true)))
+    (c.share.ensures (seat_intact I B v st h.underway c.args.k c.args.j seat c.if-j-self.true)))
 
 pub returns-else-j-self : goal.returns-else-j-self
 returns-else-j-self g c h =
@@ -30,13 +29,12 @@ returns-else-j-self g c h =
     let B = g.D.Design.plan s.below in
     let law = g.met.D.Design.sound s.below in
     let k = c.args.k in
-    let j = c.part_of-j.result in
-    let l : k < length v.rows = omega (arith, c.if-k-units.false, c.units.ensures) in
-    let seat = c.part_of-j.ensures l in
+    let j = c.args.j in
+    let seat = c.requires.seated in
     let L = h.underway.loaded in
     subst (λ (a : Fraction). Shared (standing g.D.Design s) k (Ok a))
     (sym (c.share_noted.ensures
-    ∙ ap (λ (p : Fraction). fraction (cond (ltb j v.stage) (cond (so_far v k) p.denominator 0) (cond (is_chosen v j) p.numerator 0)) p.denominator) (L.shares_are k l)))
+    ∙ ap (λ (p : Fraction). fraction (cond (ltb j v.stage) (cond (so_far v k) p.denominator 0) (cond (is_chosen v j) p.numerator 0)) p.denominator) (L.shares_are k c.requires.listed)))
     (elim c.else-j-self.branch [
       | else-j-self-via-then-j-self+else-self w ↦ share_unmoved B law v I k j seat st s.table.chosen_all h.underway w.if-j-self.true w.if-self.false
       | else-j-self-via-else-j-self w ↦ share_aside B law v I k j seat st h.underway w.if-j-self.false
