@@ -8,6 +8,7 @@ use Rattle.frame_file.specs.declared.fault.FieldFault.{FieldFault}
 use Rattle.frame_file.specs.declared.fault.Cause.{Cause}
 use Rattle.frame_file.specs.declared.fault.Cause.TheVariants.{Field, Survey}
 use Rattle.frame_file.specs.declared.fault.FileFault.{FileFault}
+use Rattle.frame_file.specs.Limits.{first_unit_line}
 
 -- the published number of what is wrong in the file itself; and of any cause of a refusal
 abbrev pub number_of_field : FieldReason → ℕ
@@ -51,9 +52,9 @@ abbrev pub of_field : FieldFault → FileFault
 of_field e = record { cause = Field e.reason; line = e.line; column = e.column }
 
 -- ---- faults of the design and of the survey
--- row r stands in line r + 3, and where no row is named that is line 3; too few words (21) and too large a scale (22) concern the whole file
+-- row r stands in line r + 3, and where no row is named that is line 3, the first of a unit; too few words (21) and too large a scale (22) concern the whole file
 abbrev pub line_concerned : Refusal → ℕ
-line_concerned f = cond (f.number == 21 || f.number == 22) 0 (f.row + 3)
+line_concerned f = cond (f.number == 21 || f.number == 22) 0 (f.row + first_unit_line)
 
 -- such a fault as one of the file, whole
 abbrev pub of_survey : Fault → FileFault

@@ -1,6 +1,7 @@
 -- What a field may hold, and the number of its fault.
 use Rattle.std.specs.Prelude.{ℕ, zero, suc, ◌-◌, ◌+◌, ◌*◌, Bool, cond, ◌&&◌, ◌||◌, List, [], ◌∷◌, length, drop, Some, None, Option, ◌==◌, nat_lt, nat_le, slice_index_or}
 use Rattle.std.specs.Str.{all_ascii_digits}
+use Rattle.frame_file.specs.Limits.{most_takes, largest_sample, largest_seed, last_place, last_cell, largest_size, largest_amount}
 
 -- ---- numbers
 -- the number that the digits write, after those of n
@@ -64,15 +65,15 @@ columns kinds = record { kind_at = λ c. item kinds (c - 1); least = length kind
 
 -- line 1: the sample size n and the number m for each cluster, and the seed
 abbrev pub header_form : Form
-header_form = columns (number 1 1024 ∷ number 1 1024 ∷ number 1 4294967295 ∷ [])
+header_form = columns (number 1 largest_sample ∷ number 1 largest_sample ∷ number 1 largest_seed ∷ [])
 
--- line 2: the take of each stratum, 1 to 64 of them
+-- line 2: the take of each stratum
 abbrev pub takes_form : Form
-takes_form = record { kind_at = λ c. cond (nat_le c 64) (Some (number 1 1024)) None; least = 1 }
+takes_form = record { kind_at = λ c. cond (nat_le c most_takes) (Some (number 1 largest_sample)) None; least = 1 }
 
 -- every further line: a unit's stratum, cluster, size, money and cell
 abbrev pub unit_form : Form
-unit_form = columns (number 0 65535 ∷ number 0 65535 ∷ number 1 10000 ∷ amount 1000000 ∷ number 0 5 ∷ [])
+unit_form = columns (number 0 last_place ∷ number 0 last_place ∷ number 1 largest_size ∷ amount largest_amount ∷ number 0 last_cell ∷ [])
 
 -- the form of line i
 abbrev pub form_of : ℕ → Form

@@ -3,6 +3,7 @@ use Rattle.std.specs.Prelude.{◌≡◌, ℕ, zero, suc, ◌+◌, ◌<◌, ◌�
 use Rattle.frame_file.specs.Pieces.{Line, fields_of, lines_of}
 use Rattle.frame_file.specs.Fields.{Form, wrong_at, form_of, item}
 use Rattle.frame_file.specs.Faults.{FileRefusal, wrong}
+use Rattle.frame_file.specs.Limits.{most_bytes, first_unit_line, last_unit_line}
 
 -- a field that stands in a column, or no field where one has to be
 abbrev pub field_spot : Form → ℕ → Option (List ℕ) → Option ℕ
@@ -18,12 +19,12 @@ in_column_1 number (suc k) = None
 abbrev pub line_spot : ℕ → Line → ℕ → Option ℕ
 line_spot i l k =
     cond l.ended
-    (cond (nat_le i 1026) (field_spot (form_of i) (1 + k) (item (fields_of l.text) k)) (in_column_1 32 k))
+    (cond (nat_le i last_unit_line) (field_spot (form_of i) (1 + k) (item (fields_of l.text) k)) (in_column_1 32 k))
     (in_column_1 29 k)
 
 -- and where it does not
 abbrev pub absent_spot : ℕ → ℕ → Option ℕ
-absent_spot i k = cond (nat_le i 2) (in_column_1 29 k) (cond (nat_le i 3) (in_column_1 32 k) None)
+absent_spot i k = cond (nat_le i 2) (in_column_1 29 k) (cond (nat_le i first_unit_line) (in_column_1 32 k) None)
 
 abbrev pub spot_of : ℕ → Option Line → ℕ → Option ℕ
 spot_of i None k = absent_spot i k
@@ -45,9 +46,9 @@ pub record FirstSpot (bytes : List ℕ) (x : FileRefusal) : Type 0 where
 
 -- x is the first that is wrong: the file is too long, or else it is at the first spot
 abbrev pub FirstWrong : List ℕ → FileRefusal → Type 0
-FirstWrong bytes x = ((32768 < length bytes) × (x ≡ wrong 33 0 0)) ⊎ ((length bytes ≤ 32768) × FirstSpot bytes x)
+FirstWrong bytes x = ((most_bytes < length bytes) × (x ≡ wrong 33 0 0)) ⊎ ((length bytes ≤ most_bytes) × FirstSpot bytes x)
 
 -- nothing is wrong, at no spot
 pub record NothingWrong (bytes : List ℕ) : Type 0 where
-  pub short : length bytes ≤ 32768
+  pub short : length bytes ≤ most_bytes
   pub nowhere : (j k : ℕ) → spot bytes j k ≡ None

@@ -5,6 +5,7 @@ use Rattle.std.specs.List.{concat}
 use Rattle.frame_file.specs.declared.frame.Header.{Header}
 use Rattle.frame_file.specs.declared.frame.FrameUnit.{FrameUnit}
 use Rattle.frame_file.specs.declared.frame.Frame.{Frame}
+use Rattle.frame_file.specs.Limits.{most_takes, most_units, largest_sample, largest_seed, last_place, last_cell, largest_size, largest_amount}
 
 -- a header of which nothing is read
 abbrev pub no_header : Header
@@ -46,28 +47,28 @@ Between low high n = (low ≤ n) × (n ≤ high)
 
 -- the numbers of line 1; the takes and their count; an amount of money; the numbers of a unit; and all units and their count
 pub record HeaderFits (h : Header) : Type 0 where
-  pub n : Between 1 1024 h.n
-  pub m : Between 1 1024 h.m
-  pub seed : Between 1 4294967295 h.seed
+  pub n : Between 1 largest_sample h.n
+  pub m : Between 1 largest_sample h.m
+  pub seed : Between 1 largest_seed h.seed
 
 pub record TakesFit (takes : List ℕ) : Type 0 where
-  pub each : All (Between 1 1024) takes
-  pub count : Between 1 64 (length takes)
+  pub each : All (Between 1 largest_sample) takes
+  pub count : Between 1 most_takes (length takes)
 
 pub record MoneyFits (money : ℤ) : Type 0 where
   pub low : negsuc 999999 ≤ℤ money
-  pub high : money ≤ℤ pos 1000000
+  pub high : money ≤ℤ pos largest_amount
 
 pub record UnitFits (u : FrameUnit) : Type 0 where
-  pub stratum : u.row.stratum ≤ 65535
-  pub cluster : u.row.cluster ≤ 65535
-  pub size : Between 1 10000 u.row.size
+  pub stratum : u.row.stratum ≤ last_place
+  pub cluster : u.row.cluster ≤ last_place
+  pub size : Between 1 largest_size u.row.size
   pub money : MoneyFits u.money
-  pub cell : u.cell.at ≤ 5
+  pub cell : u.cell.at ≤ last_cell
 
 pub record UnitsFit (units : List FrameUnit) : Type 0 where
   pub each : All UnitFits units
-  pub count : Between 1 1024 (length units)
+  pub count : Between 1 most_units (length units)
 
 -- every number of a frame is in its range, and so are the counts
 pub record Fits (f : Frame) : Type 0 where

@@ -70,13 +70,16 @@ impl Cause {
     }
 }
 
+// The line of the unit 0.
+const FIRST_UNIT_LINE: u64 = 3;
+
 // The line of the frame file that a fault of the design or of the survey concerns: that of its row, or 0 where the whole file is at fault.
 fn line_of(fault: Fault) -> u64
     ensures { result ≡ line_concerned (numbered fault) }
 {
     match fault.reason {
         Reason::Dry | Reason::ScaleTooLarge => 0,
-        _ => u64::from(fault.row) + 3,
+        _ => u64::from(fault.row) + FIRST_UNIT_LINE,
     }
 }
 

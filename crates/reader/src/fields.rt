@@ -5,6 +5,7 @@ ghost use Rattle.frame_file.specs.Fields.{amount, number};
 ghost use Rattle.frame_file.specs.Faults.{numbered_field, wrong};
 ghost use Rattle.frame_file.specs.Written.{Between, MoneyFits};
 ghost use Rattle.reader.specs.Cursors.{left, IsWrong, TakesField};
+ghost use Rattle.frame_file.specs.Limits.{largest_amount};
 
 use crate::cut::cut;
 use crate::number::{money, natural};
@@ -81,7 +82,7 @@ impl<'a> Fields<'a> {
     pub(crate) fn money(&mut self) -> Result<i32, FieldFault>
         requires { self.old.column < 100 }
         ensures taken { IfOk result (λ z. TakesField self.old (signed_decimal z) self.new × MoneyFits z) }
-        ensures wrong { IfErr result (λ e. IsWrong (amount 1000000) self.old (numbered_field e)) }
+        ensures wrong { IfErr result (λ e. IsWrong (amount largest_amount) self.old (numbered_field e)) }
     {
         let field = self.take()?;
         match money(field) {

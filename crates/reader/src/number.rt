@@ -3,6 +3,7 @@ ghost use Rattle.std.specs.Fmt.{signed_decimal};
 ghost use Rattle.frame_file.specs.Faults.{number_of_field};
 ghost use Rattle.frame_file.specs.Fields.{amount, number, number_in, wrong_in};
 ghost use Rattle.frame_file.specs.Written.{Between, MoneyFits};
+ghost use Rattle.frame_file.specs.Limits.{largest_amount};
 
 use frame_file::fault::FieldReason;
 use frame_file::frame::LARGEST_AMOUNT;
@@ -55,7 +56,7 @@ pub(crate) fn natural(field: &[u8], low: u32, high: u32) -> Result<u32, FieldRea
 #[tactic(auto, using(crate::proofs::Digits::minus_zero))]
 pub(crate) fn money(field: &[u8]) -> Result<i32, FieldReason>
     ensures written { IfOk result (λ z. (field.now ≡ signed_decimal z) × MoneyFits z) }
-    ensures wrong { IfErr result (λ e. wrong_in (amount 1000000) field.now ≡ Some (number_of_field e)) }
+    ensures wrong { IfErr result (λ e. wrong_in (amount largest_amount) field.now ≡ Some (number_of_field e)) }
 {
     match field {
         [b'-', digits @ ..] => match natural(digits, 0, LARGEST_AMOUNT)? {

@@ -7,11 +7,10 @@ use Rattle.plain_survey.specs.States.{State}
 use Rattle.plain_survey.specs.Calls.{draw_answer, draw_after, start_after, start_refusal}
 use Rattle.frame_file.specs.declared.frame.Frame.{Frame}
 use Rattle.frame_file.specs.Faults.{FileRefusal}
-use Rattle.frame_file.specs.Refusals.{file_refusal}
-use Rattle.frame_file.specs.Written.{written, Fits}
+use Rattle.frame_file.specs.Written.{written}
 use Rattle.frame_laws.proofs.WrittenAccepted.{written_is_accepted}
 use Rattle.response.specs.Drawing.{draws, DrawnOut}
-use Rattle.response.specs.Responses.{list_of, plans_of, words_of, refusal_line, end_text, PrintsStarted, PrintsFor, RespondsTo, Responds}
+use Rattle.response.specs.Responses.{list_of, plans_of, words_of, refusal_line, end_text, PrintsStarted, PrintsFor, RespondsTo}
 use Rattle.response.specs.Laws.{SomeResponse}
 use Rattle.response.proofs.Draws.{draw_takes_word}
 

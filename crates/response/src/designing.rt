@@ -4,6 +4,7 @@ ghost use Rattle.layers.specs.Stratified.{stratified_plan};
 ghost use Rattle.layers.specs.TwoStage.{two_stage_plan};
 ghost use Rattle.response.specs.Failures.{Gets};
 ghost use Rattle.response.specs.Responses.{plans_of};
+ghost use Rattle.frame_file.specs.Limits.{largest_sample};
 
 use crate::failure::Failure;
 use design::design::Design;
@@ -24,7 +25,7 @@ fn stages<A: Design + Drop, B: Design + Drop>(
     second: B,
     m: u32,
 ) -> Result<TwoStage<A, B>, Failure>
-    requires { Between 1 1024 m }
+    requires { Between 1 largest_sample m }
     ensures { Gets (λ s. ⟦<TwoStage<A, B> as Design>⟧.plan s ≡ two_stage_plan m (A.Design.plan first) (B.Design.plan second)) result }
 {
     let mut stages = TwoStage::new(heap, first, second)?;
