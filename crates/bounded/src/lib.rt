@@ -1,7 +1,7 @@
 //! Lists of bounded length, for all of which memory is had when they are made.
 #![tactic(auto)]
 
-ghost use Rattle.std.specs.Prelude.{◌≡◌, ℕ, ◌+◌, ◌-◌, ◌^◌, ◌<◌, ◌≤◌, ◌⊎◌, [], ◌∷◌, ◌++◌, length, replicate, set as replaced, IfOk, slice_index_or};
+ghost use Rattle.std.specs.Prelude.{◌≡◌, ℕ, ◌+◌, ◌-◌, ◌<◌, ◌≤◌, ◌⊎◌, [], ◌∷◌, ◌++◌, length, replicate, take, set as replaced, IfOk, slice_index_or};
 
 use std::alloc::{AllocError, Global};
 use std::marker::Model;
@@ -55,12 +55,14 @@ impl<T: Copy, const MOST: usize> BoundedVec<T, MOST> {
         self.items.clear();
     }
 
-    /// Appends an item, where there is a place left.
+    /// Appends an item. A full list stays as it is.
     pub fn push(&mut self, x: T)
-        requires { length self.old < MOST }
-        ensures { self.new ≡ self.old ++ x ∷ [] }
+        ensures appended { length self.old < MOST → self.new ≡ self.old ++ x ∷ [] }
+        ensures full { MOST ≤ length self.old → self.new ≡ self.old }
     {
-        self.items.push_reserved(x);
+        if self.items.len() < MOST {
+            self.items.push_reserved(x);
+        }
     }
 
     /// Puts x in the place of the item i, and changes nothing past the last.
@@ -72,38 +74,39 @@ impl<T: Copy, const MOST: usize> BoundedVec<T, MOST> {
         }
     }
 
-    /// Leaves n times x, and nothing else.
+    /// Leaves n times x, and nothing else; `MOST` times x, where n is larger.
     pub fn fill(&mut self, n: usize, x: T)
-        requires { n ≤ MOST }
-        ensures { self.new ≡ replicate n x }
+        ensures filled { n ≤ MOST → self.new ≡ replicate n x }
+        ensures full { MOST ≤ n → self.new ≡ replicate MOST x }
     {
         self.clear();
         // It succeeds, as there is room.
-        let _ = self.items.resize(n, x);
+        let _ = self.items.resize(n.min(MOST), x);
     }
 
-    /// Leaves these items, and nothing else.
+    /// Leaves these items, and nothing else; the first `MOST` of them, where there are more.
     pub fn copy_from(&mut self, items: &[T])
-        requires { length items.now ≤ MOST }
-        ensures { self.new ≡ items.now }
+        ensures copied { length items.now ≤ MOST → self.new ≡ items.now }
+        ensures full { MOST ≤ length items.now → self.new ≡ take MOST items.now }
     {
         self.clear();
+        let count = items.len().min(MOST);
         // It succeeds, as there is room.
-        let _ = self.items.extend_from_slice(items);
+        let _ = self.items.extend_from_slice(&items[..count]);
     }
 
-    /// Puts f(0), f(1) and so on in these places.
-    pub fn write<F: Fn(u32) -> T>(&mut self, places: Range<usize>, f: F)
-        requires forward { places.start ≤ places.end }
-        requires within { places.end ≤ length self.old }
-        requires few { places.end - places.start ≤ 2 ^ 32 }
+    /// Puts f(0), f(1) and so on in these places. Where the list does not have all of them, it stays as it is.
+    pub fn write<F: Fn(usize) -> T>(&mut self, places: Range<usize>, f: F)
         requires callable { (k : ℕ) → k < places.end - places.start → F.pre f k }
         ensures len { length self.new ≡ length self.old }
-        ensures written { (k : ℕ) (d : T) → k < places.end - places.start → F.post f k (slice_index_or self.new (places.start + k) d) }
+        ensures written { places.end ≤ length self.old → (k : ℕ) (d : T) → k < places.end - places.start → F.post f k (slice_index_or self.new (places.start + k) d) }
         ensures rest { (k : ℕ) (d : T) → (k < places.start) ⊎ (places.end ≤ k) → slice_index_or self.new k d ≡ slice_index_or self.old k d }
+        ensures outside { length self.old < places.end → self.new ≡ self.old }
     {
-        for (k, x) in self.items[places].iter_mut().enumerate() {
-            *x = f(k as u32);
+        if places.start <= places.end && places.end <= self.items.len() {
+            for (k, x) in self.items[places].iter_mut().enumerate() {
+                *x = f(k);
+            }
         }
     }
 }
@@ -120,11 +123,16 @@ mod tests {
         list.push(5);
         list.push(6);
         list.push(7);
+        list.push(9);
         list.set(1, 8);
         assert_eq!(rt; list.as_slice(), [5, 8, 7].as_slice());
-        list.fill(3, 1);
-        list.write(1..3, |k| k + 10);
+        list.fill(4, 1);
+        list.write(1..3, |k| k as u32 + 10);
         assert_eq!(rt; list.as_slice(), [1, 10, 11].as_slice());
+        list.write(2..4, |k| k as u32);
+        assert_eq!(rt; list.as_slice(), [1, 10, 11].as_slice());
+        list.copy_from(&[1, 2, 3, 4]);
+        assert_eq!(rt; list.as_slice(), [1, 2, 3].as_slice());
         list.copy_from(&[4, 5]);
         assert_eq!(rt; list.as_slice(), [4, 5].as_slice());
         list.clear();

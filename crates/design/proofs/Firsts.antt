@@ -1,5 +1,5 @@
 -- The first number that passes a test, and the refusals made of it.
-use Rattle.std.proofs.Common.{◌≡◌, ℕ, zero, suc, ◌+◌, ◌<◌, ◌≤◌, Bool, true, false, cond, List, length, slice_index_or, Some, None, Ok, Err, Option, sym, refl, ap, ◌∙◌, subst, ap₂, add-one, arith}
+use Rattle.std.proofs.Common.{◌≡◌, ℕ, zero, suc, ◌+◌, ◌^◌, ◌<◌, ◌≤◌, Bool, true, false, cond, List, length, slice_index_or, Some, None, Ok, Err, Option, Result, IfSome, sym, refl, ap, ◌∙◌, subst, ap₂, add-one, arith}
 use Rattle.std.specs.List.{position, position_or_len}
 use Rattle.std.proofs.lemmas.Grind.{common_steps}
 use Rattle.std.proofs.lemmas.List.Sums.{fails_before_first}
@@ -88,6 +88,15 @@ no_row (Some k) number e = nothing _ e
 pub answers_at : {U : Type 0} (number : ℕ) (o : Option ℕ) (k : ℕ) (Q : U → Type 0) (f : Fault) → o ≡ Some k → numbered f ≡ refusal_at number k
     → Answers {A = U} (refused_at o number) Q (Err f)
 answers_at {U} number o k Q f e is = subst (λ x. Answers {A = U} (refused_at x number) Q (Err f)) (sym e) is
+
+-- a row that is the first of so few to pass a test
+pub few_rows : (n : ℕ) (p : ℕ → Bool) (o : Option ℕ) → o ≡ first n p → n ≤ 1024 → IfSome o (λ k. k < 2 ^ 32)
+few_rows n p None e l = tt
+few_rows n p (Some k) e l = omega (arith, first_below n p k (sym e))
+
+pub refuses_first : {U : Type 0} (n : ℕ) (p : ℕ → Bool) (o : Option ℕ) (number : ℕ) (r : Result U Fault) → n ≤ 1024
+    → (IfSome o (λ k. k < 2 ^ 32) → Answers (refused_at o number) (λ _. Unit {0}) r) → o ≡ first n p → Answers (refused_at (first n p) number) (λ _. Unit {0}) r
+refuses_first n p o number r l a e = subst (λ x. Answers (refused_at x number) (λ _. Unit {0}) r) e (a (few_rows n p o e l))
 
 -- ---- answers
 pub accepted : {U : Type 0} (o : Option Refusal) (Q : U → Type 0) (u : U) → Answers {A = U} o Q (Ok u) → (o ≡ None) × Q u

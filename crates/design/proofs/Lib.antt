@@ -1,3 +1,4 @@
 pub mod Firsts
 pub mod Checks
 pub mod Calls
+pub mod Once

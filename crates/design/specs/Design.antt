@@ -3,7 +3,7 @@ use Rattle.std.specs.Prelude.{◌≡◌, ℕ, ◌^◌, ◌<◌, ◌≤◌, Bool,
 use Rattle.outcomes.specs.Trees.{Tree, Sample, Share, Always, Lawful, ways, subtree}
 use Rattle.design.specs.Faults.{Refusal, numbered, refusal}
 use Rattle.design.specs.declared.fault.Fault.{Fault}
-use Rattle.design.specs.declared.fraction.Fraction.{Fraction}
+use Rattle.design.specs.Fractions.{Fraction}
 use Rattle.design.specs.declared.row.Row.{Row}
 
 -- a run: the present tree, the number of units, and each unit's denominator
@@ -67,7 +67,7 @@ OfUnit (in_run run) k Q (Err e) = (run.units ≤ k) × (numbered e ≡ refusal 1
 
 -- the run's denominator, under the numerator that makes it the inclusion share
 abbrev pub Shared : Standing → ℕ → Result Fraction Fault → Type 0
-Shared s k r = OfUnit s k (λ run share. (share.denominator ≡ run.denominator k) × Fair run k share.numerator) r
+Shared s k r = OfUnit s k (λ run share. (share.1 ≡ run.denominator k) × Fair run k share.0) r
 
 -- yes exactly where the unit is in every outcome
 abbrev pub Taken : Standing → ℕ → Result Bool Fault → Type 0

@@ -2,7 +2,7 @@
 use Rattle.std.specs.Prelude.{ℕ, false, List}
 use Rattle.outcomes.specs.Trees.{Tree, finished, branching, Sample}
 use Rattle.design.specs.Design.{Plan, refuses, accepts, SoundPlan}
-use Rattle.design.specs.declared.fraction.Fraction.{Fraction}
+use Rattle.design.specs.Fractions.{Fraction, fraction}
 use Rattle.design.specs.declared.row.Row.{Row}
 
 -- what a design's settings fix for each list and sample size
@@ -33,10 +33,6 @@ numerator_of (accepts num run) k = num k
 abbrev pub denominator_of : Plan → ℕ → ℕ
 denominator_of (refuses f) k = 0
 denominator_of (accepts num run) k = run.denominator k
-
--- num parts of a whole of den parts
-abbrev pub fraction : ℕ → ℕ → Fraction
-fraction num den = record { numerator = num; denominator = den }
 
 -- the prescribed share of a unit, of a plan that accepts
 abbrev pub share_of : Plan → ℕ → Fraction

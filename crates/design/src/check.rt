@@ -1,4 +1,4 @@
-ghost use Rattle.std.specs.Prelude.{◌≡◌, ◌^◌, ◌<◌, ◌≤◌, length, IfSome};
+ghost use Rattle.std.specs.Prelude.{◌≡◌, ◌-◌, ◌^◌, ◌<◌, ◌≤◌, length, Some, IfSome};
 ghost use Rattle.design.specs.Faults.{Answers, number_of, refused_at};
 ghost use Rattle.design.specs.Lists.{total, count_refusal, size_refusal, total_refusal, list_refusal};
 
@@ -6,13 +6,13 @@ use crate::fault::{Fault, Reason};
 use crate::limits::{LARGEST_TOTAL, MOST_ROWS};
 use crate::row::Row;
 
-/// Refuses the row that was found at fault, if one was.
+/// Refuses the row that was found at fault, if one was. A row past the largest number of 32 bits is told as that number.
 pub fn refuse_at(row: Option<usize>, reason: Reason) -> Result<(), Fault>
-    requires { IfSome row (λ k. k < 2 ^ 32) }
-    ensures { Answers (refused_at row (number_of reason)) (λ _. Unit {0}) result }
+    ensures fits { IfSome row (λ k. k < 2 ^ 32) → Answers (refused_at row (number_of reason)) (λ _. Unit {0}) result }
+    ensures past { IfSome row (λ k. 2 ^ 32 ≤ k → Answers (refused_at (Some (2 ^ 32 - 1)) (number_of reason)) (λ _. Unit {0}) result) }
 {
     match row {
-        Some(k) => Err(Fault::at(reason, k as u32)),
+        Some(k) => Err(Fault::at(reason, u32::try_from(k).unwrap_or(u32::MAX))),
         None => Ok(()),
     }
 }

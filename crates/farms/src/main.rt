@@ -52,9 +52,7 @@ fn print_list<A: Design, B: Design, C: Design>(
     println!(rt; "unit  farm          hectares     share  systematic  pivotal  Poisson")?;
     for (i, farm) in FARMS.iter().enumerate() {
         let k = i as u32;
-        let share = fresh.share(k)?;
-        let part = share.numerator;
-        let whole = share.denominator;
+        let (part, whole) = fresh.share(k)?;
         let name = farm.name;
         let hectares = farm.hectares;
         print!(rt; "{k:>4}  {name:<12}  {hectares:>8}  {part:>3}/{whole}")?;

@@ -19,7 +19,7 @@ RefusedAtFirst = (bytes : List ℕ) (x : FileRefusal) → (file_refusal bytes �
 abbrev pub ElseNothingWrong : Type 0
 ElseNothingWrong = (bytes : List ℕ) → (file_refusal bytes ≡ None) ↔ NothingWrong bytes
 
--- the written form of a frame in range is not refused, and it is that of no other frame
+-- the written form of a frame in range is not refused, and it is that of no other frame in range
 abbrev pub WrittenIsAccepted : Type 0
 WrittenIsAccepted = (f : Frame) → Fits f → file_refusal (written f) ≡ None
 

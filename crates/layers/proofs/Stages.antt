@@ -4,7 +4,8 @@ use Rattle.outcomes.specs.Trees.{Tree, finished, branching, Sample, weight, incl
 use Rattle.outcomes.proofs.Trees.{lawful_ways}
 use Rattle.design.specs.Design.{Run, Standing, no_run, in_run, Shared, Fair, SoundRun, SoundStanding, ways_of, below}
 use Rattle.parts.specs.Parts.{Part, place_of}
-use Rattle.design.specs.Plans.{Plans, fraction, nothing, outcome, SoundPlans}
+use Rattle.design.specs.Plans.{Plans, nothing, outcome, SoundPlans}
+use Rattle.design.specs.Fractions.{fraction}
 use Rattle.parts.specs.Series.{series, chosen, numerators, denominators}
 use Rattle.parts.proofs.Chains.{Inside}
 use Rattle.parts.specs.Seats.{Seated}

@@ -1,13 +1,19 @@
 -- What stands of a layer, by its parts.
 use Rattle.std.proofs.Common.{◌≡◌, ℕ, Bool, true, false, [], ◌∷◌, Some, None, Ok, Err, Option, Result, sym, refl, ap, ◌∙◌, subst}
+use mathlib.Core.Logic.{∥∥₁_elim}
 use Rattle.design.specs.Faults.{Refusal, numbered, Answers, or_else, first_of}
 use Rattle.design.specs.Design.{Run, Standing, no_run, in_run, Began, plan_of, SoundStanding}
 use Rattle.design.specs.declared.fault.Fault.{Fault}
-use Rattle.parts.specs.Running.{Undisturbed}
-use Rattle.layers.specs.Standings.{stands_if, HoldsIf}
+use Rattle.design.proofs.Once.{sound_once}
+use Rattle.layers.specs.Standings.{stands_if}
 
-pub exact_if : (b : Bool) (X : Type 0) (st : Standing) → (X → SoundStanding st) → HoldsIf b X → SoundStanding (stands_if b st)
-exact_if true X st f h = f h
+-- a fact with one proof, of what is kept while a run stands
+pub kept_now : {X G : Type 0} (running : Bool) → ∥ (running ≡ true → X) ∥₁ → running ≡ true → IsProp G → (X → G) → G
+kept_now running kept stands once f = ∥∥₁_elim kept once (λ k. f (k stands))
+
+-- the run that stands is sound, where what is kept while one stands makes it so
+pub exact_if : (running : Bool) (X : Type 0) (st : Standing) → (X → SoundStanding st) → ∥ (running ≡ true → X) ∥₁ → SoundStanding (stands_if running st)
+exact_if true X st f h = kept_now true h refl (sound_once st) f
 exact_if false X st f h = tt
 
 -- ---- answers
@@ -44,8 +50,3 @@ module _ (U : Type 0) (o : Option Refusal) (num : ℕ → ℕ) (run : Run) where
   refused_as r y e is same h =
       subst (λ (x : Result U Fault). Began {U = U} (plan_of o num run) x no_run) (sym (is ∙ ap Err same))
       (subst (λ (x : Option Refusal). Began {U = U} (plan_of x num run) (Err e) no_run) (sym h) (refl, refl))
-
-  -- accepted, and what follows leaves the run as it was
-  pub begun_moved : (r : Result U Fault) (S : Type 0) (now mid : Standing) → Undisturbed r S now mid → o ≡ None → mid ≡ in_run run → Began {U = U} (plan_of o num run) r now × S
-  begun_moved (Ok u) S now mid m n e = (subst (λ (x : Option Refusal). Began {U = U} (plan_of x num run) (Ok u) now) (sym n) (m.1 ∙ e), m.0)
-  begun_moved (Err f) S now mid m n e = absurd m

@@ -46,23 +46,22 @@ abbrev pub Fits : Plans → Tables → Standing → Type 0
 Fits B v no_run = ⊥
 Fits B v (in_run r) = Fitting B v r
 
--- the first design runs, and may have finished; I says that it is intact
-pub record FirstUnderway (I : Type 0) (B : Plans) (v : Tables) (st : Standing) : Type 0 where
-  pub intact : I
+-- the first design runs, and may have finished
+pub record FirstUnderway (B : Plans) (v : Tables) (st : Standing) : Type 0 where
   pub loaded : Loaded B v
   pub fits : Fits B v st
 
--- the first design runs, and may have finished, while the second has just begun on the first cluster; J says that the second is intact
-pub record Drawing (I J : Type 0) (B : Plans) (v : Tables) (st su : Standing) : Type 0 where
-  pub underway : FirstUnderway I B v st
-  pub at_first : AtPart J B v 0 su
+-- the first design runs, and may have finished, while the second has just begun on the first cluster
+pub record Drawing (B : Plans) (v : Tables) (st su : Standing) : Type 0 where
+  pub underway : FirstUnderway B v st
+  pub at_first : AtPart B v 0 su
 
 -- the first design runs, and has ways
-pub record InFirst (I J : Type 0) (B : Plans) (v : Tables) (st su : Standing) : Type 0 where
-  pub drawing : Drawing I J B v st su
+pub record InFirst (B : Plans) (v : Tables) (st su : Standing) : Type 0 where
+  pub drawing : Drawing B v st su
   pub has_ways : 0 < ways_of st
 
 -- the first design has finished, and the second runs on the taken clusters
-pub record InSecond (I J : Type 0) (B : Plans) (v : Tables) (st su : Standing) : Type 0 where
-  pub underway : FirstUnderway I B v st
-  pub series : Intact J B v su
+pub record InSecond (B : Plans) (v : Tables) (st su : Standing) : Type 0 where
+  pub underway : FirstUnderway B v st
+  pub series : Intact B v su

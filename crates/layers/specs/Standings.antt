@@ -6,8 +6,3 @@ use Rattle.design.specs.Design.{Standing, no_run}
 abbrev pub stands_if : Bool → Standing → Standing
 stands_if true st = st
 stands_if false st = no_run
-
--- what holds of the run, where one stands
-abbrev pub HoldsIf : Bool → Type 0 → Type 0
-HoldsIf true X = X
-HoldsIf false X = Unit {0}

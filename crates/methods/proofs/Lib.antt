@@ -9,3 +9,5 @@ pub mod DuelStates
 pub mod Pivotals
 pub mod PivotalCalls
 pub mod Poissons
+pub mod Throws
+pub mod Duelling

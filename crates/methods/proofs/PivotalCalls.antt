@@ -64,10 +64,10 @@ goals_add_up : (list : List Row) (n : ℕ) → add_up (goals list n) ≡ n * tot
 goals_add_up [] n = omega arith
 goals_add_up (r ∷ rs) n = omega (arith, goals_add_up rs n, ap (λ x. n * x) (sum_front (length rs) (size_at (r ∷ rs))))
 
-began : (all : ℕ) (holds : List ℕ) → pivotal all holds 0 nobody (λ _. false) ≡ pivotal_tree all holds 0 None
+pub began : (all : ℕ) (holds : List ℕ) → pivotal all holds 0 nobody (λ _. false) ≡ pivotal_tree all holds 0 None
 began all holds = ap (λ u. pivotal all holds 0 nobody u) (none_called all holds)
 
-held_start : (list : List Row) (n : ℕ) → Fine list n → Held (total list) (goals list n) 0 None
+pub held_start : (list : List Row) (n : ℕ) → Fine list n → Held (total list) (goals list n) 0 None
 held_start list n f = (
   total_some list n f,
   f.checks.small,

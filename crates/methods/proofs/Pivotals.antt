@@ -83,7 +83,7 @@ unfolding pivotal
 tree_done all holds j pend l = ap (λ xs. pivotal all xs j (pending_of holds pend) (taken_of all holds j)) (drop_all j holds l)
 
 -- at the end nobody is pending
-no_one_left : (all : ℕ) (holds : List ℕ) (j : ℕ) (pend : Option ℕ) → Held all holds j pend → length holds ≤ j → (k : ℕ) → is_pending pend k ≡ true → ⊥
+pub no_one_left : (all : ℕ) (holds : List ℕ) (j : ℕ) (pend : Option ℕ) → Held all holds j pend → length holds ≤ j → (k : ℕ) → is_pending pend k ≡ true → ⊥
 no_one_left all holds j None h l k e = no_way (sym e)
 no_one_left all holds j (Some i) h l k e =
     let z : add_up (drop j holds) ≡ 0 = ap add_up (drop_all j holds l) in

@@ -4,7 +4,7 @@ use Rattle.outcomes.specs.Trees.{Tree, Sample}
 use Rattle.design.specs.Faults.{numbered, refusal}
 use Rattle.design.specs.Design.{Standing, no_run, in_run}
 use Rattle.design.specs.declared.fault.Fault.{Fault}
-use Rattle.design.specs.declared.fraction.Fraction.{Fraction}
+use Rattle.design.specs.Fractions.{Fraction}
 use Rattle.methods.specs.Plain.{plain_run}
 
 -- the run that stands, where one does: units that hold so much of `all`, and the present tree
@@ -27,5 +27,5 @@ AllOrNothing all holds called = (k : ℕ) → k < called → slice_index holds k
 -- the answer of share: what the unit holds, over all
 abbrev pub HeldShare : Bool → ℕ → List ℕ → ℕ → Result Fraction Fault → Type 0
 HeldShare running all holds k (Ok share) =
-    (running ≡ true) × (k < length holds) × (share.numerator ≡ slice_index holds k) × (share.denominator ≡ all)
+    (running ≡ true) × (k < length holds) × (share.0 ≡ slice_index holds k) × (share.1 ≡ all)
 HeldShare running all holds k (Err e) = ((running ≡ false) ⊎ (length holds ≤ k)) × (numbered e ≡ refusal 19)

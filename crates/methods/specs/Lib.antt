@@ -5,5 +5,6 @@ pub mod Poisson
 pub mod Holdings
 pub mod SystematicRuns
 pub mod PivotalRuns
+pub mod Duelling
 pub mod PoissonRuns
 pub mod Laws

@@ -5,11 +5,16 @@ use mathlib.Core.List.{List, [], ◌∷◌, ◌++◌}
 use mathlib.Core.Logic.{◌↔◌}
 use Prim.Native.Nat.{ℕ, zero, suc, ◌+◌, ◌*◌}
 use native.Mathlib.Omega.{arith}
+use lib.IntN.{ℤ, pos, ◌*ℤ◌}
+use borrow.Author.Differences.{up, down, same_in, sum_is_lem, product_is}
 use Rattle.outcomes.specs.Sums.{sum, others}
-use Rattle.outcomes.specs.Trees.{Tree, finished, branching, weight, expect, weight_of, Every}
-use Rattle.outcomes.specs.Listing.{Weighed, heavier, joined, outcomes, weighed_sum, passed_sum, Leads, ways_along, weight_at}
+use Rattle.outcomes.specs.Trees.{Tree, finished, branching, weight, expect, expectℤ, weight_of, Every}
+use Rattle.outcomes.specs.Listing.{Weighed, heavier, joined, outcomes, weighed_sum, weighed_sumℤ, passed_sum, Leads, ways_along, weight_at}
+use Rattle.outcomes.specs.Estimates.{sample_sumℤ}
+use Rattle.outcomes.specs.Laws.{AveragesListed}
 use Rattle.outcomes.proofs.Sums.{sum_same, others_times}
 use Rattle.outcomes.proofs.Trees.{expect_constant}
+use Rattle.outcomes.proofs.Estimates.{expectℤ_is, fair_totalℤ}
 
 sum_append : {A : Type 0} (X : A → ℕ) (xs ys : List (Weighed A)) → weighed_sum X (xs ++ ys) ≡ weighed_sum X xs + weighed_sum X ys
 sum_append X [] ys = omega arith
@@ -31,6 +36,28 @@ expect_listed X (branching m sub) =
     sum_same m (λ d. expect X (sub d) * O d) (λ d. weighed_sum X (heavier (O d) (outcomes (sub d))))
     (λ d l. ap (λ x. x * O d) (expect_listed X (sub d)) ∙ sym (sum_heavier X (O d) (outcomes (sub d))))
     ∙ sym (sum-joined X m (λ d. heavier (O d) (outcomes (sub d))))
+
+-- ---- the same, of signed values. An integer z is up z - down z
+weighed_is : {A : Type 0} (X : A → ℤ) (os : List (Weighed A))
+    → up (weighed_sumℤ X os) + weighed_sum (λ a. down (X a)) os ≡ down (weighed_sumℤ X os) + weighed_sum (λ a. up (X a)) os
+weighed_is X [] = refl
+weighed_is X (o ∷ os) =
+    omega (arith, weighed_is X os, product_is (pos o.times) (X o.outcome), sum_is_lem (pos o.times *ℤ X o.outcome) (weighed_sumℤ X os))
+
+pub expectℤ_listed : {A : Type 0} (X : A → ℤ) (t : Tree A) → expectℤ X t ≡ weighed_sumℤ X (outcomes t)
+expectℤ_listed X t =
+    same_in (expectℤ X t) (weighed_sumℤ X (outcomes t))
+    (omega (
+      arith,
+      expectℤ_is X (λ a. up (X a)) (λ a. down (X a)) t (λ a. omega arith),
+      weighed_is X (outcomes t),
+      expect_listed (λ a. up (X a)) t,
+      expect_listed (λ a. down (X a)) t,
+    ))
+
+pub averages_listed : AveragesListed
+averages_listed t R s p q w y share some inverse =
+    sym (expectℤ_listed (sample_sumℤ R (λ k. pos (w k) *ℤ y k)) t) ∙ fair_totalℤ t R s p q w y share some inverse
 
 -- the weight of an event, over such a list
 passed : {A : Type 0} (p : A → Bool) (os : List (Weighed A)) → weighed_sum (λ a. cond (p a) 1 0) os ≡ passed_sum p os

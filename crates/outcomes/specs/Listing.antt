@@ -1,5 +1,5 @@
 -- The outcomes of a tree as a list, each with its weight, and the throws that lead to an outcome.
-use Rattle.std.specs.Prelude.{◌≡◌, Bool, cond, List, [], ◌∷◌, ◌++◌, ℕ, zero, suc, ◌+◌, ◌*◌, ◌<◌}
+use Rattle.std.specs.Prelude.{◌≡◌, Bool, cond, List, [], ◌∷◌, ◌++◌, map, ℕ, zero, suc, ◌+◌, ◌*◌, ◌<◌, ℤ, pos, ◌+ℤ◌, ◌*ℤ◌}
 use Rattle.outcomes.specs.Sums.{others}
 use Rattle.outcomes.specs.Trees.{Tree, finished, branching, weight}
 
@@ -29,6 +29,11 @@ abbrev pub weighed_sum : {A : Type 0} → (A → ℕ) → List (Weighed A) → �
 weighed_sum X [] = 0
 weighed_sum X (o ∷ os) = o.times * X o.outcome + weighed_sum X os
 
+-- the same, of a signed value
+abbrev pub weighed_sumℤ : {A : Type 0} → (A → ℤ) → List (Weighed A) → ℤ
+weighed_sumℤ X [] = pos 0
+weighed_sumℤ X (o ∷ os) = pos o.times *ℤ X o.outcome +ℤ weighed_sumℤ X os
+
 -- the sum of the weights of those that pass the test p
 abbrev pub passed_sum : {A : Type 0} → (A → Bool) → List (Weighed A) → ℕ
 passed_sum p [] = 0
@@ -52,3 +57,13 @@ unfoldable pub weight_at : {A : Type 0} → Tree A → List ℕ → ℕ
 weight_at (finished a) ds = 1
 weight_at (branching m sub) [] = 1
 weight_at (branching m sub) (d ∷ ds) = weight_at (sub d) ds * others m (λ e. weight (sub e)) d
+
+-- the roads of a tree: all lists of throws that lead from the top to an outcome, in order. A finished tree has the empty one; an
+-- open tree has, for each throw d, d before each road of the subtree `sub d`
+unfoldable pub roads : {A : Type 0} → Tree A → List (List ℕ)
+roads (finished a) = [] ∷ []
+roads (branching m sub) = joined m (λ d. map (λ ds. d ∷ ds) (roads (sub d)))
+
+-- the road ds leads to the outcome that is listed with its weight
+abbrev pub LeadsTo : {A : Type 0} → Tree A → List ℕ → Weighed A → Type 0
+LeadsTo t ds o = Leads t ds o.outcome × (o.times ≡ weight_at t ds)

@@ -29,12 +29,10 @@ const WORDS: u32 = 64;
 fn print_frame<D: Design, S: Source>(rt: &impl Print, survey: &Survey<D, S>) -> anyhow::Result<()> {
     println!(rt; "unit  household  region  persons  share")?;
     for (i, household) in HOUSEHOLDS.iter().enumerate() {
-        let share = survey.share(i as u32)?;
+        let (part, whole) = survey.share(i as u32)?;
         let name = household.name;
         let region = household.region.name();
         let persons = household.persons;
-        let part = share.numerator;
-        let whole = share.denominator;
         println!(rt; "{i:>4}  {name:<9}  {region:<6}  {persons:>7}  {part:>2}/{whole}")?;
     }
     Ok(())
@@ -73,9 +71,7 @@ fn print_report<D: Design, S: Source, T: Total>(
     readings: &[T::Reading],
     total: &mut T,
 ) -> anyhow::Result<u32> {
-    let report = survey.report(readings, total)?;
-    let scale = report.scale;
-    let taken = report.taken;
+    let (scale, taken) = survey.report(readings, total)?;
     println!(rt; "\n{kind}: scale {scale}, {taken} taken")?;
     Ok(scale)
 }

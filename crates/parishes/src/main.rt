@@ -60,8 +60,7 @@ fn print_field(rt: &impl Print, k: u32, field: &Field, share: &Fraction) -> anyh
     let parish = field.parish.name();
     let hamlet = field.hamlet;
     let hectares = field.hectares;
-    let part = share.numerator;
-    let whole = share.denominator;
+    let (part, whole) = *share;
     println!(rt; "{k:>4}  {parish:>6}  {hamlet:>6}  {hectares:>8}  {part:>5} / {whole:>5}")?;
     Ok(())
 }

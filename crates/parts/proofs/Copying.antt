@@ -7,8 +7,8 @@ use Rattle.outcomes.specs.Trees.{Tree, finished, branching, Sample, HasWays, Alw
 use Rattle.outcomes.proofs.Trees.{average_one}
 use Rattle.design.specs.Design.{Plan, refuses, accepts, Standing, no_run, in_run, Shared, Taken}
 use Rattle.design.specs.declared.fault.Fault.{Fault}
-use Rattle.design.specs.declared.fraction.Fraction.{Fraction}
-use Rattle.design.specs.Plans.{fraction, share_of, outcome}
+use Rattle.design.specs.Fractions.{Fraction, fraction}
+use Rattle.design.specs.Plans.{share_of, outcome}
 use Rattle.parts.specs.Copying.{outcome_of, Over, Fresh, overwritten}
 
 -- ---- answers of the design below
@@ -39,7 +39,7 @@ share_is : (a : Plan) (st : Standing) (k n : ℕ) (s : Fraction) → Shared st k
 share_is (refuses f) st k n s h w l = absurd w
 share_is (accepts num run) st k n s h w l =
     let g : Shared (in_run run) k (Ok s) = subst (λ (x : Standing). Shared x k (Ok s)) w.0 h in
-    ap₂ fraction (average_one (λ u. cond (u k) 1 0) s.numerator (num k) (run.denominator k) run.tree w.2 g.1.1 (w.3 k l)) g.1.0
+    ap₂ fraction (average_one (λ u. cond (u k) 1 0) s.0 (num k) (run.denominator k) run.tree w.2 g.1.1 (w.3 k l)) g.1.0
 
 pub share_found : (a : Plan) (st : Standing) (k n : ℕ) (r : Result Fraction Fault) (d : Fraction) → Shared st k r → Fresh a st n → k < n → result_unwrap_or r d ≡ share_of a k
 share_found a st k n (Ok s) d h w l = share_is a st k n s h w l

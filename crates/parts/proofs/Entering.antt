@@ -102,13 +102,13 @@ module _ (B : Plans) (law : SoundPlans B) (v : Tables) (L : Loaded B v) (flags :
         ap (λ (t : Tree Sample). resumed B (part_at v j) (ahead v (j + 1)) (so_far v) t) (sym S.tree_is)
         ∙ ap (λ (ps : List Part). series B ps (so_far v)) (sym ahead_is)
 
-    pub entered_part : (I : Type 0) → I → Undisturbed x (Underway I B (at_stage v j) st) (standing_of B (at_stage v j) st) (run_from B v from (so_far v))
-    entered_part I i =
-        moved x (Underway I B (at_stage v j) st) (standing_of B (at_stage v j) st) (run_from B v from (so_far v)) S.ok
+    pub entered_part : Undisturbed x (Underway B (at_stage v j) st) (standing_of B (at_stage v j) st) (run_from B v from (so_far v))
+    entered_part =
+        moved x (Underway B (at_stage v j) st) (standing_of B (at_stage v j) st) (run_from B v from (so_far v)) S.ok
         (record {
           loaded = loaded;
           flags = flags;
-          present = subst (λ b. Present b I B (at_stage v j) st) (sym has) (subst (λ (z : Standing). Present true I B (at_stage v j) z) (sym S.stands) (i, within));
+          present = subst (λ b. Present b B (at_stage v j) st) (sym has) (subst (λ (z : Standing). Present true B (at_stage v j) z) (sym S.stands) within);
           unmoved = λ e l. (S.begins, N.found more);
         })
         (ap (λ b. standing_by b B (at_stage v j) st) has ∙ ap (λ (z : Standing). standing_by true B (at_stage v j) z) S.stands
@@ -118,10 +118,10 @@ module _ (B : Plans) (law : SoundPlans B) (v : Tables) (L : Loaded B v) (flags :
         has = lt-ltb (j + 1) (length v.bounds) place
 
   -- none is left
-  pub entered_none : {U : Type 0} (u : U) (I : Type 0) (st : Standing) → length v.chosen ≤ j
-      → Undisturbed {U = U} (Ok u) (Underway I B (at_stage v j) st) (standing_of B (at_stage v j) st) (run_from B v from (so_far v))
-  entered_none u I st done = (
-    record { loaded = loaded; flags = flags; present = subst (λ b. Present b I B (at_stage v j) st) (sym has) tt; unmoved = λ e l. absurd (omega (arith, l, done)) },
+  pub entered_none : {U : Type 0} (u : U) (st : Standing) → length v.chosen ≤ j
+      → Undisturbed {U = U} (Ok u) (Underway B (at_stage v j) st) (standing_of B (at_stage v j) st) (run_from B v from (so_far v))
+  entered_none u st done = (
+    record { loaded = loaded; flags = flags; present = subst (λ b. Present b B (at_stage v j) st) (sym has) tt; unmoved = λ e l. absurd (omega (arith, l, done)) },
     ap (λ b. standing_by b B (at_stage v j) st) has ∙ ap (λ (ps : List Part). in_run (run_over B v (series B ps (so_far v)))) (sym ahead_none),
   )
     where
@@ -137,11 +137,11 @@ pub record Noted (B : Plans) (v : Tables) (taken : List Bool) (st : Standing) : 
   pub none : NoneFrom (with_taken v taken) (first_row_of v (v.stage + 1))
   pub stands : run_from B v (v.stage + 1) (so_far (with_taken v taken)) ≡ standing_of B v st
 
-pub noted : (B : Plans) (v : Tables) (I : Type 0) (taken : List Bool) (r : Run) → Underway I B v (in_run r) → v.stage + 1 < length v.bounds → ways r.tree ≡ 0
+pub noted : (B : Plans) (v : Tables) (taken : List Bool) (r : Run) → Underway B v (in_run r) → v.stage + 1 < length v.bounds → ways r.tree ≡ 0
     → ((k : ℕ) → get_or taken k false ≡ overwritten (so_far v) (first_row_of v v.stage) (first_row_of v (v.stage + 1)) (outcome r.tree) k)
     → Noted B v taken (in_run r)
-noted B v I taken r U more over flags =
-    let W : Within B v r = (subst (λ b. Present b I B v (in_run r)) has U.present).1 in
+noted B v taken r U more over flags =
+    let W : Within B v r = (subst (λ b. Present b B v (in_run r)) has U.present) in
     record {
       loaded = record { rising = U.loaded.rising; accepted = U.loaded.accepted; shares_are = U.loaded.shares_are };
       none = λ k l. flags k ∙ written_past (so_far v) (first_row_of v v.stage) (first_row_of v (v.stage + 1)) k (outcome r.tree) l

@@ -15,3 +15,4 @@ pub mod Entering
 pub mod Stepping
 pub mod Trying
 pub mod Totals
+pub mod Roads

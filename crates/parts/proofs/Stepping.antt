@@ -6,8 +6,8 @@ use Rattle.std.proofs.lemmas.Bool.{cases_lt, false≢true}
 use Rattle.outcomes.specs.Trees.{Tree, finished, branching, Sample, Average, Lawful, ways, subtree, bind}
 use Rattle.design.specs.Design.{Plan, refuses, accepts, Run, Standing, no_run, in_run, Shared, SoundPlan, SoundStanding, ways_of, below}
 use Rattle.design.specs.declared.fault.Fault.{Fault}
-use Rattle.design.specs.declared.fraction.Fraction.{Fraction}
-use Rattle.design.specs.Plans.{Plans, fraction, numerator_of, denominator_of, share_of, SoundPlans}
+use Rattle.design.specs.Fractions.{Fraction, fraction}
+use Rattle.design.specs.Plans.{Plans, numerator_of, denominator_of, share_of, SoundPlans}
 use Rattle.parts.specs.Series.{plan_for, joined, series, denominators, numerators}
 use Rattle.parts.specs.Bounds.{Steps, Rising}
 use Rattle.parts.specs.Seats.{Seated}
@@ -35,28 +35,17 @@ seat_of (a ∷ bs) e k h l =
     (s.0, record { place = omega (arith, s.1); low = s.2; high = subst (λ i. k < get_or (a ∷ bs) i 0) (sym (add-one s.0)) s.3 })
 
 -- ---- ways and step
-ways_by : (b : Bool) (I : Type 0) (B : Plans) (v : Tables) (st : Standing) → Present b I B v st → Settled b st → ways_of (standing_by b B v st) ≡ cond b (ways_of st) 0
-ways_by true I B v no_run p s = absurd p
-ways_by true I B v (in_run r) p s = open_tree r.tree s
+ways_by : (b : Bool) (B : Plans) (v : Tables) (st : Standing) → Present b B v st → Settled b st → ways_of (standing_by b B v st) ≡ cond b (ways_of st) 0
+ways_by true B v no_run p s = absurd p
+ways_by true B v (in_run r) p s = open_tree r.tree s
   where
     open_tree : (t : Tree Sample) → 0 < ways t → ways (resumed B (part_at v v.stage) (ahead v (v.stage + 1)) (so_far v) t) ≡ ways t
     open_tree (finished u) l = absurd (omega arith)
     open_tree (branching m sub) l = refl
-ways_by false I B v st p s = refl
+ways_by false B v st p s = refl
 
-pub ways_are : (I : Type 0) (B : Plans) (v : Tables) (st : Standing) → Intact I B v st → ways_of (standing_of B v st) ≡ cond (has_present v) (ways_of st) 0
-ways_are I B v st h = ways_by (has_present v) I B v st h.underway.present h.settled
-
-pub present_intact : (I : Type 0) (B : Plans) (v : Tables) (st : Standing) → Underway I B v st → has_present v ≡ true → I
-present_intact I B v st U has = by st (subst (λ b. Present b I B v st) has U.present)
-  where
-    by : (st : Standing) → Present true I B v st → I
-    by no_run p = absurd p
-    by (in_run r) p = p.0
-
--- the design is intact where a unit lies in the present part
-pub seat_intact : (I : Type 0) (B : Plans) (v : Tables) (st : Standing) → Underway I B v st → (k j : ℕ) → Seated v.bounds k j → j ≡ v.stage → I
-seat_intact I B v st U k j s e = present_intact I B v st U (lt-ltb (v.stage + 1) (length v.bounds) (subst (λ i. i + 1 < length v.bounds) e s.place))
+pub ways_are : (B : Plans) (v : Tables) (st : Standing) → Intact B v st → ways_of (standing_of B v st) ≡ cond (has_present v) (ways_of st) 0
+ways_are B v st h = ways_by (has_present v) B v st h.underway.present h.settled
 
 lawful_subtree : (n d : ℕ) (t : Tree Sample) → Lawful n t → d < ways t → Lawful n (subtree t d)
 lawful_subtree n d (finished u) l h = absurd (omega arith)
@@ -67,24 +56,23 @@ bind_down h d (finished u) l = absurd (omega arith)
 bind_down h d (branching m sub) l = refl
 
 -- a step of the design in the present part is one of the series
-pub stepped_down : (I I' : Type 0) (B : Plans) (v : Tables) (st st' : Standing) (d : ℕ) → Underway I B v st → has_present v ≡ true → I' → d < ways_of st → st' ≡ below st d
-    → Underway I' B (gone_on v) st' × (standing_of B (gone_on v) st' ≡ below (standing_of B v st) d)
-stepped_down I I' B v st st' d U has i l e = by st U (subst (λ b. Present b I B v st) has U.present) l e
+pub stepped_down : (B : Plans) (v : Tables) (st st' : Standing) (d : ℕ) → Underway B v st → has_present v ≡ true → d < ways_of st → st' ≡ below st d
+    → Underway B (gone_on v) st' × (standing_of B (gone_on v) st' ≡ below (standing_of B v st) d)
+stepped_down B v st st' d U has l e = by st U (subst (λ b. Present b B v st) has U.present) l e
   where
-    by : (st : Standing) → Underway I B v st → Present true I B v st → d < ways_of st → st' ≡ below st d → Underway I' B (gone_on v) st' × (standing_of B (gone_on v) st' ≡ below (standing_of B v st) d)
+    by : (st : Standing) → Underway B v st → Present true B v st → d < ways_of st → st' ≡ below st d → Underway B (gone_on v) st' × (standing_of B (gone_on v) st' ≡ below (standing_of B v st) d)
     by no_run U p l e = absurd p
     by (in_run r) U p l e =
-        let W = p.1 in
         let W' : Within B (gone_on v) (record { tree = subtree r.tree d; units = r.units; denominator = r.denominator }) = record {
-          units_are = W.units_are;
-          lawful = lawful_subtree (first_row_of v (v.stage + 1) - first_row_of v v.stage) d r.tree W.lawful l;
-          denominator_is = W.denominator_is;
-          none_ahead = W.none_ahead;
+          units_are = p.units_are;
+          lawful = lawful_subtree (first_row_of v (v.stage + 1) - first_row_of v v.stage) d r.tree p.lawful l;
+          denominator_is = p.denominator_is;
+          none_ahead = p.none_ahead;
         } in (
           record {
             loaded = record { rising = U.loaded.rising; accepted = U.loaded.accepted; shares_are = U.loaded.shares_are };
             flags = U.flags;
-            present = subst (λ b. Present b I' B (gone_on v) st') (sym has) (subst (λ (z : Standing). Present true I' B (gone_on v) z) (sym e) (i, W'));
+            present = subst (λ b. Present b B (gone_on v) st') (sym has) (subst (λ (z : Standing). Present true B (gone_on v) z) (sym e) W');
             unmoved = λ q. absurd (false≢true (sym q));
           },
           ap₂ (λ (b : Bool) (z : Standing). standing_by b B (gone_on v) z) has e
@@ -93,13 +81,13 @@ stepped_down I I' B v st st' d U has i l e = by st U (subst (λ b. Present b I B
         )
 
 -- ---- share
-module _ (B : Plans) (law : SoundPlans B) (v : Tables) (I : Type 0) where
+module _ (B : Plans) (law : SoundPlans B) (v : Tables) where
   module _ (k j : ℕ) (s : Seated v.bounds k j) where
     -- the numerator of a unit whose part is behind or ahead
     abbrev aside : ℕ
     aside = cond (ltb j v.stage) (cond (so_far v k) (denominators B (all_parts v) k) 0) (cond (is_chosen v j) (numerators B (all_parts v) k) 0)
 
-    pub share_aside : (st : Standing) → Underway I B v st → (j ≡ v.stage → ⊥)
+    pub share_aside : (st : Standing) → Underway B v st → (j ≡ v.stage → ⊥)
         → Shared (standing_of B v st) k (Ok (fraction (cond (ltb j v.stage) (cond (so_far v k) (denominators B (all_parts v) k) 0) (cond (is_chosen v j) (numerators B (all_parts v) k) 0)) (denominators B (all_parts v) k)))
     share_aside st U other = by (cases_lt (v.stage + 1) (length v.bounds)) st U
       where
@@ -109,7 +97,7 @@ module _ (B : Plans) (law : SoundPlans B) (v : Tables) (I : Type 0) where
         later : v.stage ≤ j → (t : Tree Sample) → Average (X k) (cond (is_chosen v j) (numerators B (all_parts v) k) 0) (denominators B (all_parts v) k) t → Average (X k) aside (denominators B (all_parts v) k) t
         later l t a = subst (λ b. Average (X k) (cond b (cond (so_far v k) (denominators B (all_parts v) k) 0) (cond (is_chosen v j) (numerators B (all_parts v) k) 0)) (denominators B (all_parts v) k) t) (sym (le-ltb j v.stage l)) a
 
-        now : v.stage + 1 < length v.bounds → (r : Run) (U : Underway I B v (in_run r)) → Within B v r → (j < v.stage) ⊎ (v.stage ≤ j)
+        now : v.stage + 1 < length v.bounds → (r : Run) (U : Underway B v (in_run r)) → Within B v r → (j < v.stage) ⊎ (v.stage ≤ j)
             → Average (X k) aside (denominators B (all_parts v) k) (resumed B (part_at v v.stage) (ahead v (v.stage + 1)) (so_far v) r.tree)
         now more r U W (inl l) = behind l _ (share_behind B v U.loaded law more r W k j s (denominators B (all_parts v) k) l)
         now more r U W (inr l) = later l _ (share_ahead B v U.loaded law more r W k j s (different l other))
@@ -117,22 +105,22 @@ module _ (B : Plans) (law : SoundPlans B) (v : Tables) (I : Type 0) where
             different : v.stage ≤ j → (j ≡ v.stage → ⊥) → v.stage < j
             different l ne = omega arith
 
-        by : (v.stage + 1 < length v.bounds) ⊎ (length v.bounds ≤ v.stage + 1) → (st : Standing) → Underway I B v st → Shared (standing_of B v st) k (Ok (fraction aside (denominators B (all_parts v) k)))
-        by (inl more) no_run U = absurd (subst (λ b. Present b I B v no_run) (lt-ltb (v.stage + 1) (length v.bounds) more) U.present)
+        by : (v.stage + 1 < length v.bounds) ⊎ (length v.bounds ≤ v.stage + 1) → (st : Standing) → Underway B v st → Shared (standing_of B v st) k (Ok (fraction aside (denominators B (all_parts v) k)))
+        by (inl more) no_run U = absurd (subst (λ b. Present b B v no_run) (lt-ltb (v.stage + 1) (length v.bounds) more) U.present)
         by (inl more) (in_run r) U =
             subst (λ b. Shared (standing_by b B v (in_run r)) k (Ok (fraction aside (denominators B (all_parts v) k)))) (sym (lt-ltb (v.stage + 1) (length v.bounds) more)) (
               seat_row v U.loaded.rising k j s,
-              (refl, now more r U (subst (λ b. Present b I B v (in_run r)) (lt-ltb (v.stage + 1) (length v.bounds) more) U.present).1 (cases_lt j v.stage)),
+              (refl, now more r U (subst (λ b. Present b B v (in_run r)) (lt-ltb (v.stage + 1) (length v.bounds) more) U.present) (cases_lt j v.stage)),
             )
         by (inr done) st U =
             subst (λ b. Shared (standing_by b B v st) k (Ok (fraction aside (denominators B (all_parts v) k)))) (sym (le-ltb (v.stage + 1) (length v.bounds) done))
             (seat_row v U.loaded.rising k j s, (refl, behind (omega (arith, s.place)) _ (share_over B v U.loaded k (denominators B (all_parts v) k))))
 
     -- a unit of the present part has the share that the design gives it there
-    pub share_here : (st : Standing) (r : Result Fraction Fault) → Underway I B v st → j ≡ v.stage → Shared st (k - first_row_of v j) r → Shared (standing_of B v st) k r
+    pub share_here : (st : Standing) (r : Result Fraction Fault) → Underway B v st → j ≡ v.stage → Shared st (k - first_row_of v j) r → Shared (standing_of B v st) k r
     share_here st r U e h =
         let more : v.stage + 1 < length v.bounds = subst (λ i. i + 1 < length v.bounds) e s.place in
-        by more st r U (subst (λ b. Present b I B v st) (lt-ltb (v.stage + 1) (length v.bounds) more) U.present) h
+        by more st r U (subst (λ b. Present b B v st) (lt-ltb (v.stage + 1) (length v.bounds) more) U.present) h
       where
         inside : (more : v.stage + 1 < length v.bounds) (r : Run) → Within B v r → k - first_row_of v j < r.units
         inside more r W =
@@ -140,20 +128,20 @@ module _ (B : Plans) (law : SoundPlans B) (v : Tables) (I : Type 0) where
             let b : first_row_of v (j + 1) ≡ first_row_of v (v.stage + 1) = ap (λ i. first_row_of v (i + 1)) e in
             omega (arith, W.units_are, s.low, s.high, a, b)
 
-        by : (more : v.stage + 1 < length v.bounds) (st : Standing) (r : Result Fraction Fault) → Underway I B v st → Present true I B v st → Shared st (k - first_row_of v j) r → Shared (standing_of B v st) k r
+        by : (more : v.stage + 1 < length v.bounds) (st : Standing) (r : Result Fraction Fault) → Underway B v st → Present true B v st → Shared st (k - first_row_of v j) r → Shared (standing_of B v st) k r
         by more no_run r U p h = absurd p
-        by more (in_run q) (Err f) U p h = absurd (omega (arith, inside more q p.1, h.0))
+        by more (in_run q) (Err f) U p h = absurd (omega (arith, inside more q p, h.0))
         by more (in_run q) (Ok a) U p h =
             subst (λ b. Shared (standing_by b B v (in_run q)) k (Ok a)) (sym (lt-ltb (v.stage + 1) (length v.bounds) more))
-            (seat_row v U.loaded.rising k j s, (den a h.1.0, share_present B v U.loaded law more q p.1 k j s a.numerator e h.1.1))
+            (seat_row v U.loaded.rising k j s, (den a h.1.0, share_present B v U.loaded law more q p k j s a.0 e h.1.1))
           where
-            den : (a : Fraction) → a.denominator ≡ q.denominator (k - first_row_of v j) → a.denominator ≡ denominators B (all_parts v) k
+            den : (a : Fraction) → a.1 ≡ q.denominator (k - first_row_of v j) → a.1 ≡ denominators B (all_parts v) k
             den a is =
-                is ∙ p.1.denominator_is (k - first_row_of v j) ∙ ap (λ i. denominator_of (plan_for B (part_at v i)) (k - first_row_of v j)) (sym e)
+                is ∙ p.denominator_is (k - first_row_of v j) ∙ ap (λ i. denominator_of (plan_for B (part_at v i)) (k - first_row_of v j)) (sym e)
                 ∙ sym (seat_unit v U.loaded.rising k j s (λ p. denominator_of (plan_for B p)))
 
   -- as long as the design has not gone on, that is the prescribed one
-  pub share_unmoved : (k j : ℕ) (s : Seated v.bounds k j) (st : Standing) → length v.chosen + 1 ≡ length v.bounds → Underway I B v st → j ≡ v.stage → v.moved ≡ false
+  pub share_unmoved : (k j : ℕ) (s : Seated v.bounds k j) (st : Standing) → length v.chosen + 1 ≡ length v.bounds → Underway B v st → j ≡ v.stage → v.moved ≡ false
       → Shared (standing_of B v st) k
       (Ok (fraction (cond (ltb j v.stage) (cond (so_far v k) (denominators B (all_parts v) k) 0) (cond (is_chosen v j) (numerators B (all_parts v) k) 0)) (denominators B (all_parts v) k)))
   share_unmoved k j s st all U e still =
@@ -188,7 +176,7 @@ module _ (B : Plans) (law : SoundPlans B) (v : Tables) (I : Type 0) where
       by (inl l) = l
       by (inr l) = absurd (subst T (get_or_past v.taken k false (omega (arith, all))) y)
 
-  lawful_now : (v.stage + 1 < length v.bounds) → (r : Run) → Underway I B v (in_run r) → Within B v r
+  lawful_now : (v.stage + 1 < length v.bounds) → (r : Run) → Underway B v (in_run r) → Within B v r
       → Lawful (length v.rows) (resumed B (part_at v v.stage) (ahead v (v.stage + 1)) (so_far v) r.tree)
   lawful_now more r U W =
       let after = apart_after v U.loaded.rising v.stage more in
@@ -199,44 +187,44 @@ module _ (B : Plans) (law : SoundPlans B) (v : Tables) (I : Type 0) where
       (joined (part_at v v.stage) (so_far v) w)
       (joined_below (part_at v v.stage) (so_far v) w (length v.rows) (apart_le (first_row_of v v.stage + length (part_at v v.stage).rows) (drop (v.stage + 1) (all_parts v)) (length v.rows) after) (flagged U.flags)))
 
-  pub exact_now : (st : Standing) → Underway I B v st → (I → SoundStanding st) → SoundStanding (standing_of B v st)
+  pub exact_now : (st : Standing) → Underway B v st → SoundStanding st → SoundStanding (standing_of B v st)
   exact_now st U sound = by (cases_lt (v.stage + 1) (length v.bounds)) st U sound
     where
-      dens : (st : Standing) → Underway I B v st → (k : ℕ) → k < length v.rows → (1 ≤ denominators B (all_parts v) k) × (denominators B (all_parts v) k ≤ 10 ^ 15)
+      dens : (st : Standing) → Underway B v st → (k : ℕ) → k < length v.rows → (1 ≤ denominators B (all_parts v) k) × (denominators B (all_parts v) k ≤ 10 ^ 15)
       dens st U k l =
           let p = prescribed_parts B law (all_parts v) 0 (length v.rows) k (chain v U.loaded.rising) (omega arith) l U.loaded.accepted in
           (omega (arith, p.0, p.1), p.2)
 
-      exact : (st : Standing) → Underway I B v st → (I → SoundStanding st) → (k : ℕ) → k < length v.rows → (a : Fraction) × Shared (standing_of B v st) k (Ok a)
+      exact : (st : Standing) → Underway B v st → SoundStanding st → (k : ℕ) → k < length v.rows → (a : Fraction) × Shared (standing_of B v st) k (Ok a)
       exact st U sound k l = let g = seat_of v.bounds (length v.rows) k U.loaded.rising l in on g.0 g.1 (ℕ_discrete g.0 v.stage)
         where
-          here : (j : ℕ) → Seated v.bounds k j → j ≡ v.stage → (st : Standing) → Underway I B v st → (I → SoundStanding st) → Present true I B v st → (a : Fraction) × Shared (standing_of B v st) k (Ok a)
+          here : (j : ℕ) → Seated v.bounds k j → j ≡ v.stage → (st : Standing) → Underway B v st → SoundStanding st → Present true B v st → (a : Fraction) × Shared (standing_of B v st) k (Ok a)
           here j s e no_run U sound p = absurd p
           here j s e (in_run r) U sound p =
-              let inside : k - first_row_of v j < r.units = omega (arith, p.1.units_are, s.low, s.high, ap (first_row_of v) e, ap (λ i. first_row_of v (i + 1)) e) in
-              let x = (sound p.0).exact (k - first_row_of v j) inside in (
+              let inside : k - first_row_of v j < r.units = omega (arith, p.units_are, s.low, s.high, ap (first_row_of v) e, ap (λ i. first_row_of v (i + 1)) e) in
+              let x = sound.exact (k - first_row_of v j) inside in (
                 fraction x.0 (r.denominator (k - first_row_of v j)),
                 share_here k j s (in_run r) (Ok (fraction x.0 (r.denominator (k - first_row_of v j)))) U e (inside, (refl, x.1)),
               )
 
           on : (j : ℕ) → Seated v.bounds k j → Dec (j ≡ v.stage) → (a : Fraction) × Shared (standing_of B v st) k (Ok a)
-          on j s (yes e) = here j s e st U sound (subst (λ b. Present b I B v st) (lt-ltb (v.stage + 1) (length v.bounds) (subst (λ i. i + 1 < length v.bounds) e s.place)) U.present)
+          on j s (yes e) = here j s e st U sound (subst (λ b. Present b B v st) (lt-ltb (v.stage + 1) (length v.bounds) (subst (λ i. i + 1 < length v.bounds) e s.place)) U.present)
           on j s (no ne) = (_, share_aside k j s st U ne)
 
-      by : (v.stage + 1 < length v.bounds) ⊎ (length v.bounds ≤ v.stage + 1) → (st : Standing) → Underway I B v st → (I → SoundStanding st) → SoundStanding (standing_of B v st)
-      by (inl more) no_run U sound = absurd (subst (λ b. Present b I B v no_run) (lt-ltb (v.stage + 1) (length v.bounds) more) U.present)
+      by : (v.stage + 1 < length v.bounds) ⊎ (length v.bounds ≤ v.stage + 1) → (st : Standing) → Underway B v st → SoundStanding st → SoundStanding (standing_of B v st)
+      by (inl more) no_run U sound = absurd (subst (λ b. Present b B v no_run) (lt-ltb (v.stage + 1) (length v.bounds) more) U.present)
       by (inl more) (in_run r) U sound =
           let has = lt-ltb (v.stage + 1) (length v.bounds) more in
-          let W : Within B v r = (subst (λ b. Present b I B v (in_run r)) has U.present).1 in
+          let W : Within B v r = (subst (λ b. Present b B v (in_run r)) has U.present) in
           subst (λ b. SoundStanding (standing_by b B v (in_run r))) (sym has) (record {
             lawful = lawful_now more r U W;
             denominators = dens (in_run r) U;
-            exact = λ k l. let x = subst (λ b. (a : Fraction) × Shared (standing_by b B v (in_run r)) k (Ok a)) has (exact (in_run r) U sound k l) in (x.0.numerator, x.1.1.1);
+            exact = λ k l. let x = subst (λ b. (a : Fraction) × Shared (standing_by b B v (in_run r)) k (Ok a)) has (exact (in_run r) U sound k l) in (x.0.0, x.1.1.1);
           })
       by (inr done) st U sound =
           let has = le-ltb (v.stage + 1) (length v.bounds) done in
           subst (λ b. SoundStanding (standing_by b B v st)) (sym has) (record {
             lawful = flagged U.flags;
             denominators = dens st U;
-            exact = λ k l. let x = subst (λ b. (a : Fraction) × Shared (standing_by b B v st) k (Ok a)) has (exact st U sound k l) in (x.0.numerator, x.1.1.1);
+            exact = λ k l. let x = subst (λ b. (a : Fraction) × Shared (standing_by b B v st) k (Ok a)) has (exact st U sound k l) in (x.0.0, x.1.1.1);
           })

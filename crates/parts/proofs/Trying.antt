@@ -7,9 +7,9 @@ use Rattle.outcomes.proofs.Trees.{lawful_ways}
 use Rattle.design.specs.Faults.{Refusal, Answers}
 use Rattle.design.specs.Design.{Plan, refuses, accepts, Standing, Began, SoundPlan}
 use Rattle.design.specs.declared.fault.Fault.{Fault}
-use Rattle.design.specs.declared.fraction.Fraction.{Fraction}
+use Rattle.design.specs.Fractions.{Fraction, fraction}
 use Rattle.parts.specs.Parts.{Part}
-use Rattle.design.specs.Plans.{Plans, numerator_of, denominator_of, fraction, share_of, SoundPlans}
+use Rattle.design.specs.Plans.{Plans, numerator_of, denominator_of, share_of, SoundPlans}
 use Rattle.parts.specs.Series.{plan_for, prescribed, refused_or, part_refusal}
 use Rattle.parts.specs.Bounds.{Rising}
 use Rattle.parts.specs.Seats.{Seated}
@@ -22,13 +22,13 @@ use Rattle.parts.proofs.Copying.{written_in, written_past}
 use Rattle.parts.proofs.Lawfuls.{all_accepted}
 
 -- the parts from part i on were tried, the last first, and accepted: their prescribed shares are noted, and the design has just begun on part i
-pub record Trial (I : Type 0) (B : Plans) (v : Tables) (shares : List Fraction) (i : ℕ) (st : Standing) : Type 0 where
+pub record Trial (B : Plans) (v : Tables) (shares : List Fraction) (i : ℕ) (st : Standing) : Type 0 where
   pub shares_are : (k : ℕ) → first_row_of v i ≤ k → k < length v.rows → slice_index_or shares k no_share ≡ prescribed B (all_parts v) k
-  pub at_part : AtPart I B v i st
+  pub at_part : AtPart B v i st
 
 -- the answer of the parts from part i on: their first refusal, if there is one
-abbrev pub TriedFrom : {U : Type 0} → Type 0 → Plans → Tables → List Fraction → ℕ → Standing → Result U Fault → Type 0
-TriedFrom I B v shares i st r = Answers (part_refusal B (drop i (all_parts v))) (λ _. Trial I B v shares i st) r
+abbrev pub TriedFrom : {U : Type 0} → Plans → Tables → List Fraction → ℕ → Standing → Result U Fault → Type 0
+TriedFrom B v shares i st r = Answers (part_refusal B (drop i (all_parts v))) (λ _. Trial B v shares i st) r
 
 -- an answer whose value says more
 answers_more : {U : Type 0} (o : Option Refusal) (P Q : U → Type 0) (r : Result U Fault) → (o ≡ None → (u : U) → P u → Q u) → Answers o P r → Answers o Q r
@@ -54,17 +54,17 @@ module _ (B : Plans) (v : Tables) (rise : Rising v.bounds (length v.rows)) where
           (ws (accepts num run) fresh, g)
 
   -- no part was tried yet
-  pub trial_start : {U : Type 0} (u : U) (I : Type 0) (shares : List Fraction) (i : ℕ) (st : Standing) → length v.chosen + 1 ≡ length v.bounds → i ≡ length v.chosen
-      → TriedFrom {U = U} I B v shares i st (Ok u)
-  trial_start {U} u I shares i st all end =
+  pub trial_start : {U : Type 0} (u : U) (shares : List Fraction) (i : ℕ) (st : Standing) → length v.chosen + 1 ≡ length v.bounds → i ≡ length v.chosen
+      → TriedFrom {U = U} B v shares i st (Ok u)
+  trial_start {U} u shares i st all end =
       let last = rising_last v.bounds (length v.rows) i rise (omega (arith, all, end)) (omega (arith, all, end)) in
       let quiet : part_refusal B (drop i (all_parts v)) ≡ None =
       ap (λ (ps : List Part). part_refusal B ps) (cut_done (sample_of v) v.rows v.bounds i (omega (arith, all, end))) in
-      subst (λ (o : Option Refusal). Answers {A = U} o (λ _. Trial I B v shares i st) (Ok u)) (sym quiet)
+      subst (λ (o : Option Refusal). Answers {A = U} o (λ _. Trial B v shares i st) (Ok u)) (sym quiet)
       (record { shares_are = λ k l m. absurd (omega (arith, last, l, m)); at_part = λ l. absurd (omega (arith, end, l)) })
 
-  module _ (I I' : Type 0) (shares shares' : List Fraction) (i : ℕ) (st st' : Standing) (place : i + 1 < length v.bounds) where
-    noted : Trial I B v shares (i + 1) st → WrittenIn v i shares (share_of (plan_for B (part_at v i))) shares' → (k : ℕ) → first_row_of v i ≤ k → k < length v.rows
+  module _ (shares shares' : List Fraction) (i : ℕ) (st st' : Standing) (place : i + 1 < length v.bounds) where
+    noted : Trial B v shares (i + 1) st → WrittenIn v i shares (share_of (plan_for B (part_at v i))) shares' → (k : ℕ) → first_row_of v i ≤ k → k < length v.rows
         → get_or shares' k no_share ≡ prescribed B (all_parts v) k
     noted T w k l m = w k ∙ by (cases_lt k (first_row_of v (i + 1)))
       where
@@ -81,29 +81,29 @@ module _ (B : Plans) (v : Tables) (rise : Rising v.bounds (length v.rows)) where
     parts_are = ap (λ (ps : List Part). part_refusal B ps) (split v rise i place)
 
     -- part i was tried, after those behind it
-    pub trial_step : {U V : Type 0} (x : Result V Fault) (r : Result U Fault) → TriedFrom {U = U} I B v shares (i + 1) st r
-        → Tried {U = V} (plan_for B (part_at v i)) (with_shares v shares) i shares' st' x → I' → TriedFrom {U = U} I' B v shares' i st' (result_and x r)
-    trial_step {U} {V} x r T h now =
-        subst (λ (o : Option Refusal). Answers {A = U} o (λ _. Trial I' B v shares' i st') (result_and x r)) (sym parts_are) (by (plan_for B (part_at v i)) refl x h)
+    pub trial_step : {U V : Type 0} (x : Result V Fault) (r : Result U Fault) → TriedFrom {U = U} B v shares (i + 1) st r
+        → Tried {U = V} (plan_for B (part_at v i)) (with_shares v shares) i shares' st' x → TriedFrom {U = U} B v shares' i st' (result_and x r)
+    trial_step {U} {V} x r T h =
+        subst (λ (o : Option Refusal). Answers {A = U} o (λ _. Trial B v shares' i st') (result_and x r)) (sym parts_are) (by (plan_for B (part_at v i)) refl x h)
       where
         by : (a : Plan) → plan_for B (part_at v i) ≡ a → (x : Result V Fault) → Tried {U = V} a (with_shares v shares) i shares' st' x
-            → Answers {A = U} (refused_or (first_row_of v i) a (part_refusal B (drop (i + 1) (all_parts v)))) (λ _. Trial I' B v shares' i st') (result_and x r)
+            → Answers {A = U} (refused_or (first_row_of v i) a (part_refusal B (drop (i + 1) (all_parts v)))) (λ _. Trial B v shares' i st') (result_and x r)
         by (refuses f) is (Ok u) h = absurd h
         by (refuses f) is (Err e) h = h
         by (accepts num run) is (Ok u) h =
-            answers_more (part_refusal B (drop (i + 1) (all_parts v))) (λ _. Trial I B v shares (i + 1) st) (λ _. Trial I' B v shares' i st') r
+            answers_more (part_refusal B (drop (i + 1) (all_parts v))) (λ _. Trial B v shares (i + 1) st) (λ _. Trial B v shares' i st') r
             (λ none z t. record {
               shares_are = noted t (subst (λ (a : Plan). WrittenIn v i shares (share_of a) shares') (sym is) h.0);
-              at_part = λ l. (now, subst (λ (a : Plan). Begins a st') (sym is) h.1);
+              at_part = λ l. subst (λ (a : Plan). Begins a st') (sym is) h.1;
             }) T
         by (accepts num run) is (Err e) h = absurd h
 
   -- all parts were tried
-  pub trial_end : {U : Type 0} (I : Type 0) (shares : List Fraction) (st : Standing) (r : Result U Fault) → TriedFrom {U = U} I B v shares 0 st r
-      → Answers {A = U} (part_refusal B (all_parts v)) (λ _. Ready I B (with_shares v shares) st) r
-  trial_end {U} I shares st r =
+  pub trial_end : {U : Type 0} (shares : List Fraction) (st : Standing) (r : Result U Fault) → TriedFrom {U = U} B v shares 0 st r
+      → Answers {A = U} (part_refusal B (all_parts v)) (λ _. Ready B (with_shares v shares) st) r
+  trial_end {U} shares st r =
       let z = (rising_zero v.bounds (length v.rows) rise).0 in
-      answers_more (part_refusal B (all_parts v)) (λ _. Trial I B v shares 0 st) (λ _. Ready I B (with_shares v shares) st) r
+      answers_more (part_refusal B (all_parts v)) (λ _. Trial B v shares 0 st) (λ _. Ready B (with_shares v shares) st) r
       (λ none u t. record {
         loaded = record { rising = rise; accepted = all_accepted B (all_parts v) none; shares_are = λ k l. t.shares_are k (omega (arith, z)) l };
         at_first = t.at_part;

@@ -2,6 +2,7 @@ pub mod Parts
 pub mod Orders
 pub mod Series
 pub mod Bounds
+pub mod Roads
 pub mod Seats
 pub mod Running
 pub mod Copying

@@ -3,10 +3,10 @@ use Rattle.std.specs.Prelude.{◌≡◌, ℕ, ◌+◌, ◌-◌, ◌<◌, ◌≤�
 use Rattle.outcomes.specs.Trees.{Tree, finished, Sample, Lawful, bind}
 use Rattle.design.specs.Design.{Plan, Run, Standing, no_run, in_run, Began, ways_of}
 use Rattle.design.specs.declared.fault.Fault.{Fault}
-use Rattle.design.specs.declared.fraction.Fraction.{Fraction}
+use Rattle.design.specs.Fractions.{Fraction, fraction}
 use Rattle.design.specs.declared.row.Row.{Row}
 use Rattle.parts.specs.Parts.{Part, cut}
-use Rattle.design.specs.Plans.{Plans, fraction, denominator_of}
+use Rattle.design.specs.Plans.{Plans, denominator_of}
 use Rattle.parts.specs.Series.{plan_for, joined, series, chosen, denominators, prescribed}
 use Rattle.parts.specs.Bounds.{AllAccepted, Rising}
 
@@ -108,14 +108,14 @@ pub record Loaded (B : Plans) (v : Tables) : Type 0 where
 abbrev pub Begins : Plan → Standing → Type 0
 Begins a st = Began {U = Unit {0}} a (Ok tt) st
 
--- the design has just begun on part j, if there is one; I says that it is intact
-abbrev pub AtPart : Type 0 → Plans → Tables → ℕ → Standing → Type 0
-AtPart I B v j st = j < length v.chosen → I × Begins (plan_for B (part_at v j)) st
+-- the design has just begun on part j, if there is one
+abbrev pub AtPart : Plans → Tables → ℕ → Standing → Type 0
+AtPart B v j st = j < length v.chosen → Begins (plan_for B (part_at v j)) st
 
 -- the design accepts every part, the prescribed shares are there, and it has just begun on the first part
-pub record Ready (I : Type 0) (B : Plans) (v : Tables) (st : Standing) : Type 0 where
+pub record Ready (B : Plans) (v : Tables) (st : Standing) : Type 0 where
   pub loaded : Loaded B v
-  pub at_first : AtPart I B v 0 st
+  pub at_first : AtPart B v 0 st
 
 -- no unit from the row a on is taken yet
 abbrev pub NoneFrom : Tables → ℕ → Type 0
@@ -128,21 +128,21 @@ pub record Within (B : Plans) (v : Tables) (r : Run) : Type 0 where
   pub denominator_is : (k : ℕ) → r.denominator k ≡ denominator_of (plan_for B (part_at v v.stage)) k
   pub none_ahead : NoneFrom v (first_row_of v v.stage)
 
--- there is a present part, and the design, of which I says that it is intact, runs in it; or there is none
-abbrev pub Present : Bool → Type 0 → Plans → Tables → Standing → Type 0
-Present true I B v no_run = ⊥
-Present true I B v (in_run r) = I × Within B v r
-Present false I B v st = Unit {0}
+-- there is a present part, and the design runs in it; or there is none
+abbrev pub Present : Bool → Plans → Tables → Standing → Type 0
+Present true B v no_run = ⊥
+Present true B v (in_run r) = Within B v r
+Present false B v st = Unit {0}
 
 -- the design has just begun on the present part, if there is one, which is chosen
 abbrev pub Unmoved : Plans → Tables → Standing → Type 0
 Unmoved B v st = v.stage < length v.chosen → Begins (plan_for B (part_at v v.stage)) st × (is_chosen v v.stage ≡ true)
 
 -- a run over the parts is under way; the present one may have come to its outcome
-pub record Underway (I : Type 0) (B : Plans) (v : Tables) (st : Standing) : Type 0 where
+pub record Underway (B : Plans) (v : Tables) (st : Standing) : Type 0 where
   pub loaded : Loaded B v
   pub flags : length v.taken ≡ length v.rows
-  pub present : Present (has_present v) I B v st
+  pub present : Present (has_present v) B v st
   pub unmoved : v.moved ≡ false → Unmoved B v st
 
 -- the present part has ways: a finished one is left at once
@@ -151,6 +151,6 @@ Settled true st = 0 < ways_of st
 Settled false st = Unit {0}
 
 -- under way, and settled: the parts of the state belong together
-pub record Intact (I : Type 0) (B : Plans) (v : Tables) (st : Standing) : Type 0 where
-  pub underway : Underway I B v st
+pub record Intact (B : Plans) (v : Tables) (st : Standing) : Type 0 where
+  pub underway : Underway B v st
   pub settled : Settled (has_present v) st

@@ -3,8 +3,8 @@ use Rattle.std.specs.Prelude.{ℕ, suc, ◌+◌, ◌-◌, cond, List, [], ◌∷
 use Rattle.outcomes.specs.Trees.{Tree, finished, Sample, bind}
 use Rattle.design.specs.Faults.{Refusal, refusal_passed_up}
 use Rattle.design.specs.Design.{Plan, refuses, accepts}
-use Rattle.design.specs.declared.fraction.Fraction.{Fraction}
-use Rattle.design.specs.Plans.{Plans, tree_of, numerator_of, denominator_of, fraction}
+use Rattle.design.specs.Fractions.{Fraction, fraction}
+use Rattle.design.specs.Plans.{Plans, tree_of, numerator_of, denominator_of}
 use Rattle.parts.specs.Parts.{Part, holds}
 
 -- what the design does with a part

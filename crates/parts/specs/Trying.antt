@@ -3,7 +3,7 @@ use Rattle.std.specs.Prelude.{◌≡◌, ℕ, ◌+◌, List, Ok, Err, Result, sl
 use Rattle.design.specs.Faults.{numbered, refusal_passed_up}
 use Rattle.design.specs.Design.{Plan, refuses, accepts, Standing, in_run}
 use Rattle.design.specs.declared.fault.Fault.{Fault}
-use Rattle.design.specs.declared.fraction.Fraction.{Fraction}
+use Rattle.design.specs.Fractions.{Fraction}
 use Rattle.design.specs.Plans.{share_of}
 use Rattle.parts.specs.Running.{Tables, first_row_of, no_share}
 use Rattle.parts.specs.Copying.{overwritten}

@@ -1,8 +1,8 @@
 -- Directly after an accepted begin, share answers what is prescribed.
-use Rattle.std.proofs.Common.{◌≡◌, ℕ, List, Ok, Err, Result, subst}
-use Rattle.design.specs.Design.{Plan, refuses, accepts, Run, in_run, Standing, Began, Sound, SoundPlan, OfUnit, Shared}
+use Rattle.std.proofs.Common.{ℕ, List, Ok, Err, Result, subst}
+use Rattle.design.specs.Design.{Plan, refuses, accepts, Run, in_run, Standing, Began, Sound, SoundPlan, Shared}
 use Rattle.design.specs.declared.fault.Fault.{Fault}
-use Rattle.design.specs.declared.fraction.Fraction.{Fraction}
+use Rattle.design.specs.Fractions.{Fraction}
 use Rattle.design.specs.declared.row.Row.{Row}
 use Rattle.design.proofs.Calls.{prescribed_first}
 use Rattle.piles.specs.Begun.{FirstShare}

@@ -4,7 +4,7 @@ use Rattle.outcomes.specs.Trees.{ways}
 use Rattle.design.specs.Faults.{numbered}
 use Rattle.design.specs.Design.{Plan, refuses, accepts, in_run, OfUnit}
 use Rattle.design.specs.declared.fault.Fault.{Fault}
-use Rattle.design.specs.declared.fraction.Fraction.{Fraction}
+use Rattle.design.specs.Fractions.{Fraction}
 
 -- the ways of the first throw
 abbrev pub FirstWays : Plan → Result ℕ Fault → Type 0
@@ -17,4 +17,4 @@ FirstWays (accepts num run) (Err e) = ⊥
 abbrev pub FirstShare : Plan → ℕ → Result Fraction Fault → Type 0
 FirstShare (refuses f) k (Ok share) = ⊥
 FirstShare (refuses f) k (Err e) = numbered e ≡ f
-FirstShare (accepts num run) k r = OfUnit (in_run run) k (λ now share. (share.numerator ≡ num k) × (share.denominator ≡ now.denominator k)) r
+FirstShare (accepts num run) k r = OfUnit (in_run run) k (λ now share. (share.0 ≡ num k) × (share.1 ≡ now.denominator k)) r

@@ -1,3 +1,3 @@
 pub mod Begun
+pub mod Making
 pub mod Piles
-pub mod Settings

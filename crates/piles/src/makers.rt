@@ -1,4 +1,4 @@
-// Makers of piles, generic in the designs below, so that what a test checks is small.
+// Makers of plain designs, and of layers that may have nothing set; generic in the designs below, so that what a test checks is small.
 use design::design::Design;
 use design::row::Row;
 use pivotal::Pivotal;
@@ -17,7 +17,7 @@ pub fn pivotal(heap: Global) -> Result<Pivotal, Fail> {
 }
 
 // Stratification with these takes, or with none set where allot refuses them.
-pub fn strata<D: Design + Drop>(
+pub fn strata_or_unset<D: Design + Drop>(
     heap: Global,
     below: D,
     takes: &[u32],
@@ -28,7 +28,7 @@ pub fn strata<D: Design + Drop>(
 }
 
 // Two-stage drawing with m of each cluster, or with no number set where within refuses it.
-pub fn stages<A: Design + Drop, B: Design + Drop>(
+pub fn stages_or_unset<A: Design + Drop, B: Design + Drop>(
     heap: Global,
     first: A,
     second: B,

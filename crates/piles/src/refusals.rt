@@ -1,6 +1,7 @@
 #[cfg(test)]
 mod tests {
-    use crate::makers::{pivotal, sized, stages, strata, systematic};
+    use crate::makers::{pivotal, sized, stages_or_unset, strata_or_unset, systematic};
+    use crate::making::{stages, strata, strata_of_stages};
     use design::design::Design;
     use design::fault::Fault;
     use design::row::Row;
@@ -55,7 +56,12 @@ mod tests {
         let heap = rt.alloc();
         let list = sized([1, 1, 1, 1, 1]);
         let found = [
-            by_halves(heap, strata(heap, systematic(heap)?, &[])?, &list, 2)?,
+            by_halves(
+                heap,
+                strata_or_unset(heap, systematic(heap)?, &[])?,
+                &list,
+                2,
+            )?,
             by_halves(heap, strata(heap, systematic(heap)?, &[1, 1])?, &list, 4)?,
             by_halves(heap, strata(heap, systematic(heap)?, &[2])?, &list, 2)?,
         ];
@@ -68,7 +74,7 @@ mod tests {
     fn by_clusters(heap: Global, m: u32, list: &[Row], n: u32) -> Result<Told, Fail> {
         by_halves(
             heap,
-            stages(heap, systematic(heap)?, systematic(heap)?, m)?,
+            stages_or_unset(heap, systematic(heap)?, systematic(heap)?, m)?,
             list,
             n,
         )
@@ -136,8 +142,7 @@ mod tests {
 
     // What a stratification refuses over two-stage drawing, pivotal and then systematic, with 2 of each cluster.
     fn by_stages(heap: Global, list: &[Row], n: u32, takes: &[u32]) -> Result<Told, Fail> {
-        let stages = stages(heap, pivotal(heap)?, systematic(heap)?, 2)?;
-        Ok(refused(strata(heap, stages, takes)?, list, n))
+        Ok(refused(strata_of_stages(heap, takes, 2)?, list, n))
     }
 
     // A share above 1 of a cluster in the first stage, and of a unit in the second.
@@ -202,7 +207,7 @@ mod tests {
 
     // What one stratification of these takes refuses of a list.
     fn by_takes(heap: Global, takes: &[u32], list: &[Row], n: u32) -> Result<Told, Fail> {
-        Ok(refused(strata(heap, pivotal(heap)?, takes)?, list, n))
+        Ok(refused(strata_or_unset(heap, pivotal(heap)?, takes)?, list, n))
     }
 
     #[test]

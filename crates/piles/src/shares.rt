@@ -1,6 +1,7 @@
 #[cfg(test)]
 mod tests {
-    use crate::makers::{pivotal, stages, strata, systematic};
+    use crate::makers::systematic;
+    use crate::making::{stages, stages_of_strata, strata, strata_of_stages};
     use crate::whole::{first_share, first_ways};
     use design::design::Design;
     use design::fault::Fault;
@@ -31,8 +32,8 @@ mod tests {
         Ok([first, second, seen(&design, units)])
     }
 
-    fn of(a: (u64, u64), b: (u64, u64)) -> [Result<Fraction, Fault>; 2] {
-        [a, b].map(|(numerator, denominator)| Ok(Fraction::new(numerator, denominator)))
+    fn of(a: Fraction, b: Fraction) -> [Result<Fraction, Fault>; 2] {
+        [a, b].map(Ok)
     }
 
     #[test]
@@ -92,12 +93,23 @@ mod tests {
     }
 
     #[test]
-    fn whole_piles(rt: HostRuntime) -> Result<(), Fail> {
-        let heap = rt.alloc();
+    fn whole_strata_of_stages(rt: HostRuntime) -> Result<(), Fail> {
         let list = [Row::new(1, 1, 1), Row::new(1, 2, 2), Row::new(1, 3, 3)];
-        let stages = stages(heap, pivotal(heap)?, systematic(heap)?, 1)?;
-        let pile = strata(heap, stages, &[1])?;
-        assert_eq!(rt; first(pile, &list, 1, 2), (Ok(3), Ok(Fraction::new(9, 18))));
+        let pile = strata_of_stages(rt.alloc(), &[1], 1)?;
+        assert_eq!(rt; first(pile, &list, 1, 2), (Ok(3), Ok((9, 18))));
+        Ok(())
+    }
+
+    #[test]
+    fn whole_stages_of_strata(rt: HostRuntime) -> Result<(), Fail> {
+        let list = [
+            Row::new(1, 1, 1),
+            Row::new(1, 1, 1),
+            Row::new(1, 2, 2),
+            Row::new(1, 2, 2),
+        ];
+        let pile = stages_of_strata(rt.alloc(), &[1], &[2], 2)?;
+        assert_eq!(rt; first(pile, &list, 2, 2), (Ok(6), Ok((16, 24))));
         Ok(())
     }
 }

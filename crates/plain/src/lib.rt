@@ -11,7 +11,6 @@ ghost use Rattle.plain.specs.Of.{runs, whole, held, stands_at};
 
 use design::design::Design;
 use design::fault::{Fault, Reason};
-use design::fraction::Fraction;
 use design::row::Row;
 use holdings::Holdings;
 use method::Method;
@@ -26,9 +25,11 @@ pub struct Plain<M: Method> {
 }
 
 impl<M: Method> Plain<M> {
+    ghost use Rattle.design.specs.Idle.{IsIdle};
+
     /// A design with no run, and room for every list that begin accepts, so that no later call needs memory.
     pub fn new(heap: Global) -> Result<Self, AllocError>
-        ensures { IfOk result (λ s. runs s.units ≡ false) }
+        ensures { IfOk result (IsIdle ⟦<Plain<M> as Design>⟧ (plan_from M.begun)) }
     {
         let units = Holdings::new(heap)?;
         Ok(Plain {
@@ -43,11 +44,9 @@ impl<M: Method> Design for Plain<M> {
 
     ghost tree = { λ s. stands_at s.units (M.tree s.method s.units) };
 
-    ghost intact = { λ _. Unit {0} };
-
     ghost sound = { λ s. M.sound };
 
-    ghost exact = { λ s i.
+    ghost exact = { λ s.
         let now : runs s.units ≡ true → HoldShares s.units (M.tree s.method s.units) = λ e.
         M.exact s.method s.units (holding_now (runs s.units) (M.kept_once s.method s.units) s.holding e) in
         sound_held (runs s.units) (whole s.units) (held s.units) (M.tree s.method s.units)
@@ -79,7 +78,7 @@ impl<M: Method> Design for Plain<M> {
         Ok(())
     }
 
-    fn share(&self, k: u32) -> Result<Fraction, Fault> {
+    fn share(&self, k: u32) -> Result<(u64, u64), Fault> {
         self.units.share(k)
     }
 }

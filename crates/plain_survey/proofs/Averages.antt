@@ -1,4 +1,5 @@
 -- The averages law: what reports leave, on the average over the outcomes.
+use Rattle.std.specs.Prelude.{All}
 use Rattle.std.proofs.Common.{◌≡◌, refl, ℕ, zero, suc, ◌*◌, ◌<◌, Bool, true, false, cond, ℤ, pos, ◌+ℤ◌, ◌*ℤ◌, List, [], ◌∷◌, length, sym, ap, subst, ◌∙◌, not, arith, replicate}
 use Rattle.std.proofs.lemmas.List.{length-replicate}
 use mathlib.Core.Path.{fun_ext}
@@ -14,7 +15,7 @@ use Rattle.totals.specs.Rows.{raised}
 use Rattle.plain_survey.specs.States.{PlainRun}
 use Rattle.plain_survey.specs.Calls.{scale, weight_in}
 use Rattle.plain_survey.specs.Reports.{Kind, unlawful_at, row_of_reading, added, report_of}
-use Rattle.plain_survey.specs.Laws.{EachEntryAdded, entry, true_total, FairTotals, FairReports}
+use Rattle.plain_survey.specs.Laws.{EachEntryAdded, entry, true_total, FairTotals, FairReport}
 
 -- ---- the entries
 raised_length : (w : ℕ) (es row : List ℤ) → length row ≡ length es → length (raised w es row) ≡ length es
@@ -67,25 +68,22 @@ fair_totals list num run s inverse width rows wide i l =
     ap (λ X. expectℤ X run.tree) (fun_ext (λ u. each_entry_added units u w rows width wide i l))
     ∙ fair_totalℤ run.tree units (scale p list) num run.denominator w (λ k. entry (rows k) i) s.fair (λ k m. omega (arith, s.prescribed k m)) inverse
 
--- ---- the same of a kind of total
--- a lawful reading's row has as many numbers as the kind fixes
-abbrev pub RowsOf : {R : Type 0} → Kind R → Type 0
-RowsOf {R} kind = (x : R) → kind.is_lawful x ≡ true → length (kind.row x) ≡ kind.width
-
-lawful_row : {R : Type 0} (kind : Kind R) → RowsOf kind → (readings : List R) (k : ℕ) → k < length readings → unlawful_at kind readings k ≡ false
-    → length (row_of_reading kind readings k) ≡ kind.width
-lawful_row kind rows [] k l e = absurd (omega (arith, l))
-lawful_row kind rows (x ∷ more) zero l e = rows x (yes (kind.is_lawful x) e)
+-- ---- the same of readings of a kind
+pub lawful_row : {R : Type 0} (kind : Kind R) (readings : List R) → All (λ x. kind.is_lawful x ≡ true → length (kind.row x) ≡ kind.width) readings
+    → (k : ℕ) → k < length readings → unlawful_at kind readings k ≡ false → length (row_of_reading kind readings k) ≡ kind.width
+lawful_row kind [] rows k l e = absurd (omega (arith, l))
+lawful_row kind (x ∷ more) rows zero l e = rows zero x (omega arith) (yes (kind.is_lawful x) e)
   where
     yes : (b : Bool) → not b ≡ false → b ≡ true
     yes true h = refl
     yes false h = sym h
-lawful_row kind rows (x ∷ more) (suc k) l e = lawful_row kind rows more k (omega (arith, l)) e
+lawful_row kind (x ∷ more) rows (suc k) l e = lawful_row kind more (λ j d m. rows (suc j) d (omega (arith, m))) k (omega (arith, l)) e
 
-pub fair_reports : {R : Type 0} (kind : Kind R) → RowsOf kind → (P : Plans) (r : PlainRun) → r.tree ≡ tree_of (P r.list r.n) → FairTotals (P r.list r.n) r.list → FairReports kind P r
-fair_reports kind rows P r at fair readings long lawful i l =
+pub fair_report : {R : Type 0} (kind : Kind R) (P : Plans) (r : PlainRun) → r.tree ≡ tree_of (P r.list r.n) → FairTotals (P r.list r.n) r.list
+    → (readings : List R) → All (λ x. kind.is_lawful x ≡ true → length (kind.row x) ≡ kind.width) readings → FairReport kind P r readings
+fair_report kind P r at fair readings rows long lawful i l =
     let none = first_none (length readings) (unlawful_at kind readings) lawful in
     subst
     (λ x. expectℤ (λ u. entry (report_of kind P r u readings).entries i) x ≡ pos (weight x * scale (P r.list r.n) r.list) *ℤ true_total (length r.list) (row_of_reading kind readings) i)
     (sym at)
-    (fair kind.width (row_of_reading kind readings) (λ k m. let q : k < length readings = omega (arith, m, long) in lawful_row kind rows readings k q (none k q)) i l)
+    (fair kind.width (row_of_reading kind readings) (λ k m. let q : k < length readings = omega (arith, m, long) in lawful_row kind readings rows k q (none k q)) i l)

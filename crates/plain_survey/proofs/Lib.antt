@@ -2,3 +2,5 @@ pub mod Shares
 pub mod Averages
 pub mod Reports
 pub mod Starts
+pub mod Requests
+pub mod Expanding

@@ -6,9 +6,9 @@ use Rattle.outcomes.specs.Trees.{Tree, finished, branching, Sample, Share, Alway
 use Rattle.outcomes.proofs.Trees.{positive, lawful_ways}
 use Rattle.design.specs.Faults.{told, refused_if, refusal}
 use Rattle.design.specs.Design.{accepts, Run, in_run, Shared, Taken, Sound, SoundRun}
-use Rattle.design.specs.Plans.{Plans, denominator_of, fraction}
+use Rattle.design.specs.Plans.{Plans, denominator_of}
 use Rattle.design.specs.declared.fault.Fault.{Fault}
-use Rattle.design.specs.declared.fraction.Fraction.{Fraction}
+use Rattle.design.specs.Fractions.{Fraction, fraction}
 use Rattle.design.specs.declared.row.Row.{Row}
 use Rattle.plain_survey.specs.States.{PlainRun}
 use Rattle.plain_survey.specs.Calls.{answer, unit_refusal, all, in_every, taken_answer, share_in, share_now, share_answer}
@@ -23,7 +23,7 @@ pub exact_shares : (P : Plans) (r : PlainRun) → SoundRun (run_at (P r.list r.n
 exact_shares P r s k l =
     let e = s.exact k l in
     let same = share_is (length r.list) k e.0 (denominator_of (P r.list r.n) k) r.tree s.lawful e.1 in
-    subst (λ f. Share k f.numerator f.denominator r.tree) (sym same) e.1
+    subst (λ f. Share k f.0 f.1 r.tree) (sym same) e.1
 
 pub first_shares : (list : List Row) (num : ℕ → ℕ) (run : Run) → Sound list num run → FirstShares (accepts num run) list
 first_shares list num run s k l = share_is (length list) k (num k) (run.denominator k) run.tree s.lawful (s.fair k l)
@@ -39,8 +39,8 @@ pub share_told : (P : Plans) (r : PlainRun) (k : ℕ) (result : Result Fraction 
     → Shared (in_run (run_at (P r.list r.n) r.list r.tree)) k result → told result ≡ share_answer P (Some r) k
 share_told P r k (Ok f) s h =
     let den = denominator_of (P r.list r.n) k in
-    let same = share_is (length r.list) k f.numerator den r.tree s.lawful h.1.1 in
-    ap (λ d. Ok (fraction f.numerator d)) h.1.0 ∙ ap Ok (sym same) ∙ sym (asked r k (share_now P r k) h.0)
+    let same = share_is (length r.list) k f.0 den r.tree s.lawful h.1.1 in
+    ap (λ d. Ok (fraction f.0 d)) h.1.0 ∙ ap Ok (sym same) ∙ sym (asked r k (share_now P r k) h.0)
 share_told P r k (Err e) s h = ap Err h.1 ∙ sym (not_asked r k (share_now P r k) h.0)
 
 -- ---- in every outcome

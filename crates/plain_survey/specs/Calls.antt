@@ -3,8 +3,8 @@ use Rattle.std.specs.Prelude.{ℕ, zero, suc, ◌*◌, ◌/◌, Bool, true, cond
 use Rattle.outcomes.specs.Trees.{Tree, finished, branching, Sample, weight, inclusion}
 use Rattle.design.specs.Faults.{Refusal, refusal, refused_if}
 use Rattle.design.specs.Design.{Plan, refuses, accepts}
-use Rattle.design.specs.Plans.{Plans, tree_of, numerator_of, denominator_of, fraction}
-use Rattle.design.specs.declared.fraction.Fraction.{Fraction}
+use Rattle.design.specs.Plans.{Plans, tree_of, numerator_of, denominator_of}
+use Rattle.design.specs.Fractions.{Fraction, fraction}
 use Rattle.design.specs.declared.row.Row.{Row}
 use Rattle.throws.specs.Words.{thrown, left}
 use Rattle.weights.specs.Scale.{scale_of, design_weight, weights_refusal}
@@ -45,8 +45,8 @@ start_after p list n words = record { words = words; run = begun (start_refusal 
 
 -- ---- stop
 -- the run ends, and the waiting words stay
-abbrev pub stop_after : State → State
-stop_after st = record { words = st.words; run = None }
+abbrev pub stop_after : List ℕ → State
+stop_after words = record { words = words; run = None }
 
 -- ---- draw
 -- one throw with the present ways

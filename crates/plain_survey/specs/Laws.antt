@@ -19,7 +19,7 @@ run_at p list t = record { tree = t; units = length list; denominator = denomina
 -- its denominator times the unit's inclusion weight
 abbrev pub ExactShares : Plans → Option PlainRun → Type 0
 ExactShares P None = Unit {0}
-ExactShares P (Some r) = (k : ℕ) → k < length r.list → Share k (share_now P r k).numerator (share_now P r k).denominator r.tree
+ExactShares P (Some r) = (k : ℕ) → k < length r.list → Share k (share_now P r k).0 (share_now P r k).1 r.tree
 
 -- directly after an accepted start, the share of each unit is the prescribed one
 abbrev pub FirstShares : Plan → List Row → Type 0
@@ -50,10 +50,10 @@ pub record FairStart (p : Plan) (list : List Row) : Type 0 where
   pub shares : FirstShares p list
   pub totals : FairTotals p list
 
--- the same in the words of a kind of total: of any lawful readings, one for each unit, and of what a report of each outcome leaves
-abbrev pub FairReports : {R : Type 0} → Kind R → Plans → PlainRun → Type 0
-FairReports {R} kind P r =
-    (readings : List R) → length readings ≡ length r.list → first (length readings) (unlawful_at kind readings) ≡ None → (i : ℕ) → i < kind.width
+-- the same of readings of a kind, where they are lawful and one for each unit, and of what a report of each outcome leaves
+abbrev pub FairReport : {R : Type 0} → Kind R → Plans → PlainRun → List R → Type 0
+FairReport kind P r readings =
+    length readings ≡ length r.list → first (length readings) (unlawful_at kind readings) ≡ None → (i : ℕ) → i < kind.width
     → expectℤ (λ u. entry (report_of kind P r u readings).entries i) r.tree
     ≡ pos (weight r.tree * scale (P r.list r.n) r.list) *ℤ true_total (length r.list) (row_of_reading kind readings) i
 

@@ -8,7 +8,6 @@ use Rattle.design.specs.Plans.{Plans, outcome}
 use Rattle.totals.specs.Rows.{raised}
 use Rattle.plain_survey.specs.States.{PlainRun}
 use Rattle.plain_survey.specs.Calls.{answer, scale, weight_in}
-use Rattle.plain_survey.specs.declared.report.Report.{Report}
 
 -- a kind of total: which of its readings are lawful, the row that each means, and how many numbers a row has
 pub record Kind (R : Type 0) : Type 0 where
@@ -59,10 +58,10 @@ report_refusal kind r readings =
     ∷ refused_at (first (length readings) (unlawful_at kind readings)) 26 ∷ [])
 
 -- the scale, and the number of units taken
-abbrev pub reported : Plans → PlainRun → Report
-reported P r = record { scale = scale (P r.list r.n) r.list; taken = count (length r.list) (outcome r.tree) }
+abbrev pub reported : Plans → PlainRun → ℕ × ℕ
+reported P r = (scale (P r.list r.n) r.list, count (length r.list) (outcome r.tree))
 
-abbrev pub report_answer : {R : Type 0} → Kind R → Plans → Option PlainRun → List R → Result Report Refusal
+abbrev pub report_answer : {R : Type 0} → Kind R → Plans → Option PlainRun → List R → Result (ℕ × ℕ) Refusal
 report_answer kind P None readings = Err (refusal 24)
 report_answer kind P (Some r) readings = answer (report_refusal kind r readings) (reported P r)
 

@@ -1,16 +1,14 @@
-use crate::report::Report;
 use design::fault::Fault;
-use design::fraction::Fraction;
 use design::row::Row;
 
-/// A call of a survey; the readings are of one kind of total.
+/// A call of a survey; a Q asks for a report, with readings of any kind, into one of several totals.
 #[derive(Drop)]
-pub enum Call<'a, R> {
+pub enum Call<'a, Q> {
     Start(&'a [Row], u32),
     Draw,
     Taken(u32),
     Share(u32),
-    Report(&'a [R]),
+    Report(Q),
     Stop,
 }
 
@@ -20,7 +18,7 @@ pub enum Answer {
     Started(Result<(), Fault>),
     Drawn(Result<(), Fault>),
     Taken(Result<bool, Fault>),
-    Shared(Result<Fraction, Fault>),
-    Reported(Result<Report, Fault>),
+    Shared(Result<(u64, u64), Fault>),
+    Reported(Result<(u32, u32), Fault>),
     Stopped,
 }

@@ -4,7 +4,7 @@
 ghost use Rattle.plain_survey.specs.Laws.{EachEntryAdded, InEveryExactly};
 
 pub mod call;
-pub mod report;
+pub mod either;
 
 /// Laws above two definitions of the plain survey: what taken asks of a tree, and what is added up in a report.
 pub fn plain_survey_stands()

@@ -1,6 +1,8 @@
 -- Draws that are accepted, one after another: where they lead, and that each takes a word.
 use Rattle.std.proofs.Common.{◌≡◌, ℕ, suc, ◌<◌, ◌≤◌, Bool, true, false, cond, List, [], ◌∷◌, length, Ok, Err, Result, refl, sym, ap, ◌∙◌, ltb, eqb, arith}
 use native.Mathlib.Decide.{ℕ_discrete}
+use mathlib.Core.Logic.{∥∥₁_elim}
+use Rattle.std.proofs.Math.Bridge.{le_prop}
 use Rattle.design.specs.Faults.{refusal, told}
 use Rattle.design.specs.declared.design.Design as Design
 use Rattle.design.specs.declared.fault.Fault.{Fault}
@@ -10,6 +12,7 @@ use Rattle.plain_survey.specs.States.{State, ways_now}
 use Rattle.plain_survey.specs.Calls.{draw_answer, draw_after, passed, throw_now}
 use Rattle.survey.specs.Means.{Follows, Means, Tells, words}
 use Rattle.survey.specs.declared.survey.Survey.{Survey}
+use Rattle.survey.proofs.SomeState.{all_mean_some}
 use Rattle.response.specs.Drawing.{draws}
 use Rattle.response.specs.Runs.{DrawsOut}
 use Rattle.response.proofs.Values.{never_refused}
@@ -42,17 +45,17 @@ draw_takes_word st e =
 
 -- ---- draws so far
 -- from the state st so many draws were accepted, and the survey means the state after them
-pub record Drawn {D S : Type 0} (d : Design.Ghosts D) (w : Source.Ghosts S) (st : State) (s : Survey D S) : Type 0 where
+pub record Drawn {D S : Type 0} (d : Design.Ghosts D) (w : Source.Ghosts S) (st : State) (s : Survey D S d w) : Type 0 where
   pub count : ℕ
   pub accepted : (k : ℕ) → k < count → draw_answer (draws k st) ≡ Ok tt
   pub means : Means d w s (draws count st)
 
 -- so it is from each state that the survey meant at first
-abbrev pub DrawnSoFar : {D S : Type 0} → Design.Ghosts D → Source.Ghosts S → Survey D S → Survey D S → Type 0
+abbrev pub DrawnSoFar : {D S : Type 0} (d : Design.Ghosts D) (w : Source.Ghosts S) → Survey D S d w → Survey D S d w → Type 0
 DrawnSoFar d w old now = (st : State) → Means d w old st → Drawn d w st now
 
 -- a draw that is accepted is one more
-pub one_draw_more : {D S : Type 0} (d : Design.Ghosts D) (w : Source.Ghosts S) (old now new : Survey D S) (result : Result (Unit {0}) Fault) (u : Unit {0}) → result ≡ Ok u
+pub one_draw_more : {D S : Type 0} (d : Design.Ghosts D) (w : Source.Ghosts S) (old now new : Survey D S d w) (result : Result (Unit {0}) Fault) (u : Unit {0}) → result ≡ Ok u
     → Tells d w now result draw_answer → Follows d w now new draw_after → DrawnSoFar d w old now → DrawnSoFar d w old new
 one_draw_more d w old now new result u is tells follows so_far st m =
     let x = so_far st m in
@@ -67,7 +70,7 @@ one_draw_more d w old now new result u is tells follows so_far st m =
     }
 
 -- and a draw that is refused is the last
-pub last_draw : {D S : Type 0} (d : Design.Ghosts D) (w : Source.Ghosts S) (old now new : Survey D S) (result : Result (Unit {0}) Fault) (x : Fault) → result ≡ Err x
+pub last_draw : {D S : Type 0} (d : Design.Ghosts D) (w : Source.Ghosts S) (old now new : Survey D S d w) (result : Result (Unit {0}) Fault) (x : Fault) → result ≡ Err x
     → Tells d w now result draw_answer → Follows d w now new draw_after → DrawnSoFar d w old now → DrawsOut d w old x new
 last_draw d w old now new result x is tells follows so_far st m =
     let n = so_far st m in
@@ -82,9 +85,10 @@ last_draw d w old now new result x is tells follows so_far st m =
       means = (follows (draws n.count st) n.means).means;
     }
 
--- an accepted draw of a survey that means some state leaves fewer words in its source
-pub survey_takes_word : {D S : Type 0} (d : Design.Ghosts D) (w : Source.Ghosts S) (now new : Survey D S) (result : Result (Unit {0}) Fault) (u : Unit {0}) (st : State) → result ≡ Ok u
-    → Tells d w now result draw_answer → Follows d w now new draw_after → Means d w now st → length (words w new) < length (words w now)
-survey_takes_word d w now new result u st is tells follows m =
-    let fewer = draw_takes_word st (sym (tells st m) ∙ ap told is) in
-    omega (arith, fewer, ap length m.waiting, ap length (follows st m).means.waiting)
+-- an accepted draw leaves fewer words in the source of a survey
+pub survey_takes_word : {D S : Type 0} (d : Design.Ghosts D) (w : Source.Ghosts S) (now new : Survey D S d w) (result : Result (Unit {0}) Fault) (u : Unit {0}) → result ≡ Ok u
+    → Tells d w now result draw_answer → Follows d w now new draw_after → length (words w new) < length (words w now)
+survey_takes_word d w now new result u is tells follows = ∥∥₁_elim (all_mean_some d w now) le_prop (λ k. takes k.0 k.1)
+  where
+    takes : (st : State) → Means d w now st → length (words w new) < length (words w now)
+    takes st m = let fewer = draw_takes_word st (sym (tells st m) ∙ ap told is) in omega (arith, fewer, ap length m.waiting, ap length (follows st m).means.waiting)

@@ -14,7 +14,8 @@ use Rattle.weights.specs.declared.Weights.{Weights}
 use Rattle.plain_survey.specs.States.{PlainRun, State, ways_now, run_after}
 use Rattle.plain_survey.specs.Calls.{start_refusal, start_after, first_run, begun, draw_answer, throw_now, passed}
 use Rattle.plain_survey.specs.Reports.{is_finished}
-use Rattle.survey.specs.Means.{Means, RunMeans, plans}
+use Rattle.survey.specs.Runs.{RunMeans}
+use Rattle.survey.specs.Means.{Means, plans}
 use Rattle.survey.specs.declared.survey.Survey.{Survey}
 use Rattle.survey.proofs.Drawing.{no_throw}
 use Rattle.response.specs.Drawing.{draws}
@@ -57,19 +58,19 @@ no_way_left : (units : ℕ) (t : Tree Sample) → Lawful units t → ways t ≡ 
 no_way_left units (finished u) lawful none = refl
 no_way_left units (branching m sub) lawful none = absurd (omega (arith, lawful.0, none))
 
-run_ended : (P : Plans) (I : Type 0) (standing : Standing) (w : Weights) (b : Bool) (r : PlainRun) → RunMeans P I standing w b (Some r) → (I → SoundStanding standing) → ways r.tree ≡ 0
+run_ended : (P : Plans) (standing : Standing) (w : Weights) (b : Bool) (r : PlainRun) → RunMeans P standing w b (Some r) → SoundStanding standing → ways r.tree ≡ 0
     → is_finished r.tree ≡ true
-run_ended P I standing w false r m sound none = absurd m
-run_ended P I standing w true r m sound none = no_way_left (length r.list) r.tree (subst SoundStanding m.stands (sound m.intact)).lawful none
+run_ended P standing w false r m sound none = absurd m
+run_ended P standing w true r m sound none = no_way_left (length r.list) r.tree (subst SoundStanding m.stands sound).lawful none
 
 -- where a survey stands that draws have brought to its outcome, and the run of the state that it means
-pub record Ended {D S : Type 0} (d : Design.Ghosts D) (w : Source.Ghosts S) (s : Survey D S) (list : List Row) (n : ℕ) (end : State) : Type 0 where
+pub record Ended {D S : Type 0} (d : Design.Ghosts D) (w : Source.Ghosts S) (s : Survey D S d w) (list : List Row) (n : ℕ) (end : State) : Type 0 where
   pub tree : Tree Sample
   pub ends : EndsAt d w s (record { list = list; n = n; tree = tree })
   pub run_is : end.run ≡ Some (record { list = list; n = n; tree = tree })
 
-pub ended : {D S : Type 0} (d : Design.Ghosts D) (w : Source.Ghosts S) (s : Survey D S) (P : Plans) (list : List Row) (n : ℕ) (words : List ℕ) (x : Fault)
-    → ((design : D) → d.intact design → SoundStanding (d.tree design)) → start_refusal (P list n) list ≡ None
+pub ended : {D S : Type 0} (d : Design.Ghosts D) (w : Source.Ghosts S) (s : Survey D S d w) (P : Plans) (list : List Row) (n : ℕ) (words : List ℕ) (x : Fault)
+    → ((design : D) → SoundStanding (d.tree design)) → start_refusal (P list n) list ≡ None
     → (h : DrawnTo d w (start_after (P list n) list n words) x s) → eqb (numbered x).number 17 ≡ true → Ended d w s list n h.end
 ended d w s P list n words x exact unrefused h is =
     let st = start_after (P list n) list n words in
@@ -83,7 +84,7 @@ ended d w s P list n words x exact unrefused h is =
       tree = k.0;
       ends = record {
         stands = record { waiting = h.end.words; means = means };
-        ended = run_ended (plans d s) (d.intact s.design) (d.tree s.design) s.weights s.running _ means.run (exact s.design) (sym (ap ways_now k.1) ∙ none);
+        ended = run_ended (plans d s) (d.tree s.design) s.weights s.running _ means.run (exact s.design) (sym (ap ways_now k.1) ∙ none);
       };
       run_is = run_is;
     }

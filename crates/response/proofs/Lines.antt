@@ -1,7 +1,7 @@
 -- The lines of the units taken, one after another.
 use Rattle.std.proofs.Common.{◌≡◌, ℕ, ◌+◌, Bool, cond, List, [], ◌++◌, sym, ap, ◌∙◌, add-one, append_assoc}
 use Rattle.outcomes.specs.Trees.{Sample}
-use Rattle.design.specs.declared.fraction.Fraction.{Fraction}
+use Rattle.design.specs.Fractions.{Fraction}
 use Rattle.sample_file.specs.Text.{unit_line, unit_lines}
 
 -- the line of one more unit, where it is taken

@@ -13,7 +13,7 @@ use Rattle.frame_file.specs.declared.frame.Frame.{Frame}
 use Rattle.response.specs.Responses.{list_of, run_text, end_text, refusal_line, PrintsStarted, PrintsWith}
 use Rattle.response.specs.Runs.{DrawnTo}
 
-pub prints_drawn : {D S : Type 0} (d : Design.Ghosts D) (w : Source.Ghosts S) (s : Survey D S) (P : Plans) (f : Frame) (st : State) (o : Option Refusal) (x : Fault) (out : List ℕ) → o ≡ None
+pub prints_drawn : {D S : Type 0} (d : Design.Ghosts D) (w : Source.Ghosts S) (s : Survey D S d w) (P : Plans) (f : Frame) (st : State) (o : Option Refusal) (x : Fault) (out : List ℕ) → o ≡ None
     → (h : DrawnTo d w st x s) → out ≡ end_text P f (numbered x) h.end.run → PrintsStarted o P f st out
 prints_drawn d w s P f st o x out e h is =
     subst (λ y. PrintsStarted y P f st out) (sym e) (record { refusal = numbered x; end = h.end; drawn = h.drawn; printed = is })

@@ -5,7 +5,7 @@ use Rattle.outcomes.specs.Trees.{Sample, finished}
 use Rattle.design.specs.Faults.{told, refused_if}
 use Rattle.design.specs.Plans.{Plans}
 use Rattle.design.specs.declared.fault.Fault.{Fault}
-use Rattle.design.specs.declared.fraction.Fraction.{Fraction}
+use Rattle.design.specs.Fractions.{Fraction}
 use Rattle.plain_survey.specs.States.{PlainRun}
 use Rattle.plain_survey.specs.Calls.{answer, unit_refusal, taken_answer, share_answer, share_now, in_every}
 use Rattle.response.proofs.Values.{told_value}

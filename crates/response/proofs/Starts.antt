@@ -13,7 +13,7 @@ use Rattle.response.specs.Runs.{StandsAt, prescribed_shares, shares_now}
 use Rattle.response.proofs.InOrder.{same_in_order}
 use Rattle.response.proofs.Values.{never_refused}
 
-pub record Started {D S : Type 0} (d : Design.Ghosts D) (w : Source.Ghosts S) (s : Survey D S) (P : Plans) (list : List Row) (n : ℕ) (words : List ℕ) : Type 0 where
+pub record Started {D S : Type 0} (d : Design.Ghosts D) (w : Source.Ghosts S) (s : Survey D S d w) (P : Plans) (list : List Row) (n : ℕ) (words : List ℕ) : Type 0 where
   pub unrefused : start_refusal (P list n) list ≡ None
   pub means : Means d w s (start_after (P list n) list n words)
   pub shares : FirstShares (P list n) list
@@ -22,7 +22,7 @@ accepted : (o : Option Refusal) (u : Unit {0}) → Ok u ≡ answer o tt → o �
 accepted None u e = refl
 accepted (Some f) u e = never_refused (answer (Some f) tt) u f (sym e) refl
 
-pub started : {D S : Type 0} (d : Design.Ghosts D) (w : Source.Ghosts S) (old new : Survey D S) (list : List Row) (n : ℕ) (words : List ℕ) (u : Unit {0})
+pub started : {D S : Type 0} (d : Design.Ghosts D) (w : Source.Ghosts S) (old new : Survey D S d w) (list : List Row) (n : ℕ) (words : List ℕ) (u : Unit {0})
     → Ok u ≡ start_answer (plans d old list n) list → ComesTo d w old new (start_after (plans d old list n) list n words) → FairStart (plans d old list n) list
     → Started d w new (plans d old) list n words
 started d w old new list n words u answers comes fair = record {
@@ -31,7 +31,7 @@ started d w old new list n words u answers comes fair = record {
   shares = fair.shares;
 }
 
-pub stands_first : {D S : Type 0} (d : Design.Ghosts D) (w : Source.Ghosts S) (s : Survey D S) (P : Plans) (list : List Row) (n : ℕ) (words : List ℕ)
+pub stands_first : {D S : Type 0} (d : Design.Ghosts D) (w : Source.Ghosts S) (s : Survey D S d w) (P : Plans) (list : List Row) (n : ℕ) (words : List ℕ)
     → Started d w s P list n words → StandsAt d w s (first_run (P list n) list n)
 stands_first d w s P list n words h = record {
   waiting = words;

@@ -1,5 +1,5 @@
 -- What reporting lawful readings answers and leaves, of a run that has come to its outcome.
-use Rattle.std.proofs.Common.{◌≡◌, true, not, All, IsTrue, List, length, map, Some, None, Ok, Result, ap, ◌∙◌, arith}
+use Rattle.std.proofs.Common.{ℕ, ◌≡◌, true, not, All, IsTrue, List, length, map, Some, None, Ok, Result, ap, ◌∙◌, arith}
 use Rattle.std.proofs.lemmas.List.{length-map}
 use Rattle.std.proofs.lemmas.List.Elements.{All-get_or, All-map}
 use Rattle.design.specs.Faults.{told}
@@ -10,7 +10,6 @@ use Rattle.design.proofs.Firsts.{none_first}
 use Rattle.plain_survey.specs.States.{PlainRun}
 use Rattle.plain_survey.specs.Calls.{answer}
 use Rattle.plain_survey.specs.Reports.{Kind, Tally, is_finished, unlawful_at, unless, report_refusal, report_of, reported, report_answer, report_tally}
-use Rattle.plain_survey.specs.declared.report.Report.{Report}
 use Rattle.plain_survey.proofs.Reports.{finished_is, unrefused}
 use Rattle.response.proofs.Values.{told_value}
 
@@ -25,7 +24,7 @@ reported_unrefused : {R : Type 0} (kind : Kind R) (r : PlainRun) (readings : Lis
 reported_unrefused kind r readings ended many lawful =
     unrefused kind r (outcome r.tree) readings (finished_is r.tree ended) many (none_unlawful kind readings lawful)
 
-pub report_answered : {R : Type 0} (kind : Kind R) (P : Plans) (r : PlainRun) (readings : List R) (result : Result Report Fault) → is_finished r.tree ≡ true → length readings ≡ length r.list
+pub report_answered : {R : Type 0} (kind : Kind R) (P : Plans) (r : PlainRun) (readings : List R) (result : Result (ℕ × ℕ) Fault) → is_finished r.tree ≡ true → length readings ≡ length r.list
     → All (λ x. IsTrue (kind.is_lawful x)) readings → told result ≡ report_answer kind P (Some r) readings → result ≡ Ok (reported P r)
 report_answered kind P r readings result ended many lawful e =
     told_value result (reported P r) (e ∙ ap (λ o. answer o (reported P r)) (reported_unrefused kind r readings ended many lawful))

@@ -48,7 +48,7 @@ refusal_line x = fault_line (of_refusal x)
 -- the sample of a run that has come to its outcome: prescribed shares, scale, and the reports of both totals
 abbrev pub run_text : Plans → Frame → PlainRun → List ℕ
 run_text P f r =
-    sample_text (length r.list) (outcome r.tree) (share_of (P r.list r.n)) (reported P r).scale
+    sample_text (length r.list) (outcome r.tree) (share_of (P r.list r.n)) (reported P r).0
     (report_of money_kind P r (outcome r.tree) (amounts_of f)).entries
     (report_of table_kind P r (outcome r.tree) (cells_of f)).entries
 

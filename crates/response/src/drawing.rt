@@ -1,5 +1,5 @@
 ghost use Rattle.std.specs.Prelude.{◌≡◌};
-ghost use Rattle.response.specs.Runs.{DrawsOut, HasState};
+ghost use Rattle.response.specs.Runs.{DrawsOut};
 ghost use Rattle.survey.specs.Means.{plans};
 
 use design::design::Design;
@@ -9,7 +9,6 @@ use throws::source::Source;
 
 /// Draws until a draw is refused, and answers that refusal.
 pub(crate) fn draw_out<D: Design, S: Source>(survey: &mut Survey<D, S>) -> Fault
-    requires { HasState D.Design S.Source survey.old }
     ensures drawn { DrawsOut D.Design S.Source survey.old result survey.new }
     ensures settings { plans D.Design survey.new ≡ plans D.Design survey.old }
 {

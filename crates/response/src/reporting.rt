@@ -26,8 +26,8 @@ pub(crate) fn tally<D: Design, S: Source, T: Total>(
     requires { All (λ reading. IsTrue (T.is_lawful reading)) readings.now }
     ensures { GivesTally D.Design S.Source (kind_of T.Total) survey.now readings.now (T.entries total.new) result }
 {
-    let report = survey.report(readings, total)?;
-    Ok(report.scale)
+    let (scale, _) = survey.report(readings, total)?;
+    Ok(scale)
 }
 
 /// What is reported of a sample: the scale, and both totals.

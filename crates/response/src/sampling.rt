@@ -24,7 +24,8 @@ fn is_outcome(refusal: Fault) -> bool
     refusal.reason == Reason::NoWays
 }
 
-/// Samples a frame: starts a survey on its rows, draws it out, and gives the text of the sample with the prescribed shares.
+/// Samples a frame: starts a survey on its rows, draws it out, and gives the text of the sample with the prescribed shares. These are the
+/// calls of one list, as `conduct` makes them: a start, shares, draws, reports, and questions whether units are taken.
 pub(crate) fn sample<D: Design, S: Source>(
     heap: Global,
     survey: &mut Survey<D, S>,

@@ -2,14 +2,14 @@
 use Rattle.std.specs.Prelude.{ℕ, zero, suc, cond, ℤ, List, [], ◌∷◌, ◌++◌, map, codes, decimal}
 use Rattle.std.specs.Fmt.{signed_decimal}
 use Rattle.outcomes.specs.Trees.{Sample}
-use Rattle.design.specs.declared.fraction.Fraction.{Fraction}
+use Rattle.design.specs.Fractions.{Fraction}
 use Rattle.frame_file.specs.Faults.{FileRefusal}
 use Rattle.frame_file.specs.Written.{line}
 
 -- ---- lines
 -- a taken unit: its number, and the numerator and the denominator of its share
 abbrev pub unit_line : ℕ → Fraction → List ℕ
-unit_line k share = line (decimal k ∷ decimal share.numerator ∷ decimal share.denominator ∷ [])
+unit_line k share = line (decimal k ∷ decimal share.0 ∷ decimal share.1 ∷ [])
 
 abbrev pub scale_line : ℕ → List ℕ
 scale_line scale = line (codes "scale" ∷ decimal scale ∷ [])

@@ -14,9 +14,8 @@ use totals::total::Total;
 pub fn write_unit(out: &mut String, k: u32, share: Fraction) -> Result<(), AllocError>
     ensures { OnOk result (string_bytes out.new ≡ string_bytes out.old ++ unit_line k share) }
 {
-    let part = share.numerator;
-    let whole = share.denominator;
-    writeln!(out, "{k},{part},{whole}")
+    let (numerator, denominator) = share;
+    writeln!(out, "{k},{numerator},{denominator}")
 }
 
 /// Appends the line of the scale.

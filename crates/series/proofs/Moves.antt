@@ -43,8 +43,8 @@ same_taken v taken w a = record { rows = a.rows; bounds = a.bounds; samples = a.
 pub same_gone : (v w : Tables) → SameList (gone_on v) w → SameList v w
 same_gone v w a = record { rows = a.rows; bounds = a.bounds; samples = a.samples; shares = a.shares; chosen = a.chosen }
 
-pub ready_taken : (I : Type 0) (B : Plans) (v : Tables) (st : Standing) (taken : List Bool) → Ready I B v st → Ready I B (with_taken v taken) st
-ready_taken I B v st taken R = record {
+pub ready_taken : (B : Plans) (v : Tables) (st : Standing) (taken : List Bool) → Ready B v st → Ready B (with_taken v taken) st
+ready_taken B v st taken R = record {
   loaded = record { rising = R.loaded.rising; accepted = R.loaded.accepted; shares_are = R.loaded.shares_are };
   at_first = R.at_first;
 }
@@ -68,42 +68,41 @@ stepped_by (Err f) S now mid old d m e l = absurd m
 -- the next chosen part is begun
 pub enter_part : (B B' : Plans) (law : SoundPlans B) (v : Tables) → Loaded B v → length v.taken ≡ length v.rows
     → length v.chosen + 1 ≡ length v.bounds → (from j : ℕ) → NextChosen v.chosen from j → NoneFrom v (first_row_of v from) → {U : Type 0} (x : Result U Fault) (st : Standing)
-    → j < length v.chosen → Began (plan_for B (part_at v j)) x st → B' ≡ B → (I : Type 0) → I
-    → Undisturbed x (Underway I B' (at_stage v j) st) (standing_of B' (at_stage v j) st) (run_from B v from (so_far v))
-enter_part B B' law v L flags all from j N none x st more begun e I i =
-    subst (λ (C : Plans). Undisturbed x (Underway I C (at_stage v j) st) (standing_of C (at_stage v j) st) (run_from B v from (so_far v))) (sym e)
-    (entered_part B law v L flags all from j N none x st more begun I i)
+    → j < length v.chosen → Began (plan_for B (part_at v j)) x st → B' ≡ B
+    → Undisturbed x (Underway B' (at_stage v j) st) (standing_of B' (at_stage v j) st) (run_from B v from (so_far v))
+enter_part B B' law v L flags all from j N none x st more begun e =
+    subst (λ (C : Plans). Undisturbed x (Underway C (at_stage v j) st) (standing_of C (at_stage v j) st) (run_from B v from (so_far v))) (sym e)
+    (entered_part B law v L flags all from j N none x st more begun)
 
 -- the first part is chosen, and the design has just begun on it
-pub enter_ready : (B : Plans) (law : SoundPlans B) (v : Tables) (I : Type 0) (st : Standing) → Ready I B v st → length v.taken ≡ length v.rows
+pub enter_ready : (B : Plans) (law : SoundPlans B) (v : Tables) (st : Standing) → Ready B v st → length v.taken ≡ length v.rows
     → length v.chosen + 1 ≡ length v.bounds → NoneFrom v 0 → is_chosen v 0 ≡ true
-    → Undisturbed {U = Unit {0}} (Ok tt) (Underway I B (at_stage v 0) st) (standing_of B (at_stage v 0) st) (run_from B v 0 (so_far v))
-enter_ready B law v I st R flags all none is =
+    → Undisturbed {U = Unit {0}} (Ok tt) (Underway B (at_stage v 0) st) (standing_of B (at_stage v 0) st) (run_from B v 0 (so_far v))
+enter_ready B law v st R flags all none is =
     let more = some v.chosen is in
     let N : NextChosen v.chosen 0 0 = record { low = omega arith; high = omega arith; passed = λ k p q. absurd (omega (arith, q)); found = λ m. is } in
-    let at = R.at_first more in
-    enter_part B B law v R.loaded flags all 0 0 N (λ k l. none k (omega arith)) (Ok tt) st more at.1 refl I at.0
+    enter_part B B law v R.loaded flags all 0 0 N (λ k l. none k (omega arith)) (Ok tt) st more (R.at_first more) refl
   where
     some : (flags : List Bool) → get_or flags 0 false ≡ true → 0 < length flags
     some [] e = absurd (false≢true e)
     some (b ∷ bs) e = omega arith
 
 -- the present part, from the row `first` up to `past`, is finished
-pub passing : (B : Plans) (v : Tables) (I : Type 0) (taken : List Bool) (first past : ℕ) (st : Standing) → Underway I B v st → v.stage + 1 < length v.bounds
+pub passing : (B : Plans) (v : Tables) (taken : List Bool) (first past : ℕ) (st : Standing) → Underway B v st → v.stage + 1 < length v.bounds
     → first ≡ first_row_of v v.stage → past ≡ first_row_of v (v.stage + 1) → ways_of st ≡ 0
-    → (I → Over st (past - first) → (k : ℕ) → get_or taken k false ≡ overwritten (so_far v) first past (outcome_of st) k) → Noted B v taken st
-passing B v I taken first past st U more f p over flags =
-    by st U (subst (λ b. Present b I B v st) (lt-ltb (v.stage + 1) (length v.bounds) more) U.present) over
-    (subst (λ q. I → Over st (q - first_row_of v v.stage) → (k : ℕ) → get_or taken k false ≡ overwritten (so_far v) (first_row_of v v.stage) q (outcome_of st) k) p
-    (subst (λ q. I → Over st (past - q) → (k : ℕ) → get_or taken k false ≡ overwritten (so_far v) q past (outcome_of st) k) f flags))
+    → (Over st (past - first) → (k : ℕ) → get_or taken k false ≡ overwritten (so_far v) first past (outcome_of st) k) → Noted B v taken st
+passing B v taken first past st U more f p over flags =
+    by st U (subst (λ b. Present b B v st) (lt-ltb (v.stage + 1) (length v.bounds) more) U.present) over
+    (subst (λ q. Over st (q - first_row_of v v.stage) → (k : ℕ) → get_or taken k false ≡ overwritten (so_far v) (first_row_of v v.stage) q (outcome_of st) k) p
+    (subst (λ q. Over st (past - q) → (k : ℕ) → get_or taken k false ≡ overwritten (so_far v) q past (outcome_of st) k) f flags))
   where
-    by : (st : Standing) → Underway I B v st → Present true I B v st → ways_of st ≡ 0
-        → (I → Over st (first_row_of v (v.stage + 1) - first_row_of v v.stage) → (k : ℕ) → get_or taken k false ≡ overwritten (so_far v) (first_row_of v v.stage) (first_row_of v (v.stage + 1)) (outcome_of st) k)
+    by : (st : Standing) → Underway B v st → Present true B v st → ways_of st ≡ 0
+        → (Over st (first_row_of v (v.stage + 1) - first_row_of v v.stage) → (k : ℕ) → get_or taken k false ≡ overwritten (so_far v) (first_row_of v v.stage) (first_row_of v (v.stage + 1)) (outcome_of st) k)
         → Noted B v taken st
     by no_run U q z h = absurd q
     by (in_run r) U q z h =
-        noted B v I taken r U more z
-        (h q.0 (q.1.units_are, lawful_ways (first_row_of v (v.stage + 1) - first_row_of v v.stage) r.tree q.1.lawful, z))
+        noted B v taken r U more z
+        (h (q.units_are, lawful_ways (first_row_of v (v.stage + 1) - first_row_of v v.stage) r.tree q.lawful, z))
 
 -- the search for the next chosen part: what it finds among the flags from `from` on
 pub next_found : (flags : List Bool) (from r : ℕ) → from ≤ length flags → (o : Option ℕ) → o ≡ position (λ b. b) (drop from flags)

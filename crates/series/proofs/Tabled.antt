@@ -22,6 +22,10 @@ module _ (t : PartTable) where
   pub counted : length t.chosen ≡ length (all_parts (tables t))
   counted = sym (cut-length (sample_of (tables t)) t.rows t.bounds ∙ omega (arith, t.chosen_all))
 
+  -- and no more than units may be
+  pub few_parts : length (all_parts (tables t)) ≤ 1024
+  few_parts = omega (arith, counted, t.chosen_all, t.bounds_few, t.rows_few)
+
   -- the part j is not empty and ends in the list
   pub bounded : (j : ℕ) → j < length t.chosen → (first_row_of (tables t) j < first_row_of (tables t) (j + 1)) × (first_row_of (tables t) (j + 1) ≤ length t.rows)
   bounded j l =

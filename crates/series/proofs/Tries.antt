@@ -4,7 +4,7 @@ use Rattle.std.proofs.lemmas.Bool.{false≢true}
 use Rattle.design.specs.Design.{Plan, Standing, Began}
 use Rattle.design.specs.Faults.{Answers}
 use Rattle.design.specs.declared.fault.Fault.{Fault}
-use Rattle.design.specs.declared.fraction.Fraction.{Fraction}
+use Rattle.design.specs.Fractions.{Fraction}
 use Rattle.parts.specs.Bounds.{Rising}
 use Rattle.parts.specs.Copying.{Fresh, overwritten}
 use Rattle.parts.specs.Running.{Tables, all_parts, first_row_of, part_at, no_share, Ready}
@@ -36,8 +36,8 @@ tried_as B B' v w j shares shares' st r e is h =
     subst (λ (x : Tables). Tried (plan_for B (part_at x j)) x j shares' st r) is (subst (λ (C : Plans). Tried (plan_for C (part_at w j)) w j shares' st r) e h)
 
 -- all parts were tried, which has left the plans, and no more than the shares changed
-pub ready : {U : Type 0} (I : Type 0) (B B' : Plans) (v w : Tables) (st : Standing) (r : Result U Fault) → Rising v.bounds (length v.rows) → B' ≡ B → w ≡ with_shares v w.shares
-    → TriedFrom {U = U} I B v w.shares 0 st r → Answers {A = U} (part_refusal B (all_parts v)) (λ _. Ready I B' w st) r
-ready {U} I B B' v w st r rise e is T =
-    subst (λ (C : Plans). Answers {A = U} (part_refusal B (all_parts v)) (λ _. Ready I C w st) r) (sym e)
-    (subst (λ (x : Tables). Answers {A = U} (part_refusal B (all_parts v)) (λ _. Ready I B x st) r) (sym is) (trial_end B v rise I w.shares st r T))
+pub ready : {U : Type 0} (B B' : Plans) (v w : Tables) (st : Standing) (r : Result U Fault) → Rising v.bounds (length v.rows) → B' ≡ B → w ≡ with_shares v w.shares
+    → TriedFrom {U = U} B v w.shares 0 st r → Answers {A = U} (part_refusal B (all_parts v)) (λ _. Ready B' w st) r
+ready {U} B B' v w st r rise e is T =
+    subst (λ (C : Plans). Answers {A = U} (part_refusal B (all_parts v)) (λ _. Ready C w st) r) (sym e)
+    (subst (λ (x : Tables). Answers {A = U} (part_refusal B (all_parts v)) (λ _. Ready B x st) r) (sym is) (trial_end B v rise w.shares st r T))

@@ -52,4 +52,4 @@ run_on G s j u = run_from (plans G s) (tables_of s) j u
 -- a finished run of the design A has taken these parts, and they are chosen
 abbrev pub ChoosesTaken : {A D : Type 0} → Design.Ghosts A → A → Series D → Series D → Type 0
 ChoosesTaken G design old new =
-    G.intact design → Over (G.tree design) (length (tables_of old).chosen) → Chosen (outcome_of (G.tree design)) (tables_of old) (tables_of new)
+    Over (G.tree design) (length (tables_of old).chosen) → Chosen (outcome_of (G.tree design)) (tables_of old) (tables_of new)

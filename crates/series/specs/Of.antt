@@ -29,15 +29,15 @@ IsLoaded G s = Loaded (plans G s) (tables_of s)
 
 -- the same, and the design has just begun on the first part, as where every part was tried
 abbrev pub IsReady : {D : Type 0} → Design.Ghosts D → Series D → Type 0
-IsReady G s = Ready (G.intact s.below) (plans G s) (tables_of s) (G.tree s.below)
+IsReady G s = Ready (plans G s) (tables_of s) (G.tree s.below)
 
 -- a run has begun, and its present part may be finished
 abbrev pub IsUnderway : {D : Type 0} → Design.Ghosts D → Series D → Type 0
-IsUnderway G s = Underway (G.intact s.below) (plans G s) (tables_of s) (G.tree s.below)
+IsUnderway G s = Underway (plans G s) (tables_of s) (G.tree s.below)
 
 -- a run has begun, and its present part, if there is one, has ways
 abbrev pub IsIntact : {D : Type 0} → Design.Ghosts D → Series D → Type 0
-IsIntact G s = Intact (G.intact s.below) (plans G s) (tables_of s) (G.tree s.below)
+IsIntact G s = Intact (plans G s) (tables_of s) (G.tree s.below)
 
 -- the list, its parts and their prescribed shares stay
 pub record SameList (v w : Tables) : Type 0 where

@@ -2,7 +2,7 @@ ghost use Rattle.std.specs.Prelude.{◌≡◌, ◌<◌, length, IfOk};
 ghost use Rattle.design.specs.Design.{Shared, Stepped, ways_of};
 ghost use Rattle.parts.specs.Seats.{Seated};
 ghost use Rattle.series.specs.Of.{IsIntact, IsNew, SameList, plans, standing, tables_of};
-ghost use Rattle.series.specs.Calls.{noted_share};
+ghost use Rattle.series.specs.Calls.{RefusedElsewhere, noted_share};
 
 use crate::Series;
 use crate::table::PartTable;
@@ -54,27 +54,29 @@ impl<D: Design> Series<D> {
         requires { k < length (tables_of self.now).rows }
         ensures { result ≡ noted_share (tables_of self.now) k j }
     {
-        let share = self.table.prescribed(k);
+        let (prescribed, denominator) = self.table.prescribed(k);
         let numerator = if j < self.table.stage {
             if self.table.taken.as_slice()[k] {
-                share.denominator
+                denominator
             } else {
                 0
             }
         } else if self.table.is_chosen(j) {
-            share.numerator
+            prescribed
         } else {
             0
         };
-        Fraction::new(numerator, share.denominator)
+        (numerator, denominator)
     }
 
-    /// The inclusion share of the unit k in the present tree, where it is known to lie in part j.
-    pub fn share_in(&self, k: u32, j: usize) -> Result<Fraction, Fault>
-        requires listed { k < length (tables_of self.now).rows }
-        requires seated { Seated (tables_of self.now).bounds k j }
-        ensures { IsIntact D.Design self.now → Shared (standing D.Design self.now) k result }
+    /// The inclusion share of the unit k in the present tree, where it lies in part j; anywhere else, part j has no such unit.
+    pub fn share_in(&self, k: u32, j: usize) -> Result<(u64, u64), Fault>
+        ensures seated { IsIntact D.Design self.now → Seated (tables_of self.now).bounds k j → Shared (standing D.Design self.now) k result }
+        ensures elsewhere { RefusedElsewhere (tables_of self.now) k j result }
     {
+        if !self.table.lies_in(k, j) {
+            return Err(Fault::of(Reason::NoSuchUnit));
+        }
         if j == self.table.stage && self.table.moved {
             self.below.share(k - self.table.first_row(j))
         } else {
@@ -83,12 +85,9 @@ impl<D: Design> Series<D> {
     }
 
     /// The inclusion share of the unit k in the present tree.
-    pub fn share(&self, k: u32) -> Result<Fraction, Fault>
+    pub fn share(&self, k: u32) -> Result<(u64, u64), Fault>
         ensures { IsIntact D.Design self.now → Shared (standing D.Design self.now) k result }
     {
-        if k as usize >= self.table.units() {
-            return Err(Fault::of(Reason::NoSuchUnit));
-        }
         self.share_in(k, self.table.part_of(k))
     }
 }

@@ -20,7 +20,7 @@ fn note_taken<D: Design>(design: &D, flags: &mut BoundedVec<bool, MOST_ROWS>, pl
     ensures len { length flags.new ≡ length flags.old }
     ensures noted { NotesTaken D.Design design.now places.start places.end flags.old flags.new }
 {
-    flags.write(places, |k| design.taken(k).unwrap_or(false));
+    flags.write(places, |k| design.taken(k as u32).unwrap_or(false));
 }
 
 // The first flag from `from` on that is set, or the number of flags.

@@ -26,8 +26,7 @@ fn note_shares<D: Design>(
     ensures len { length shares.new ≡ length shares.old }
     ensures noted { NotesShares D.Design below.now rows.start rows.end shares.old shares.new }
 {
-    let none = Fraction::new(0, 0);
-    shares.write(rows, |k| below.share(k).unwrap_or(none));
+    shares.write(rows, |k| below.share(k as u32).unwrap_or((0, 0)));
 }
 
 impl<D: Design> Series<D> {
@@ -35,7 +34,6 @@ impl<D: Design> Series<D> {
     fn try_part(&mut self, j: usize) -> Result<(), Fault>
         requires { j < length (tables_of self.old).chosen }
         ensures tried { Tried (plan_for (plans D.Design self.old) (part_at (tables_of self.old) j)) (tables_of self.old) j (tables_of self.new).shares (D.Design.tree self.new.below) result }
-        ensures intact { D.Design.intact self.new.below }
         ensures same { tables_of self.new ≡ with_shares (tables_of self.old) (tables_of self.new).shares }
         ensures settings { plans D.Design self.new ≡ plans D.Design self.old }
     {

@@ -3,7 +3,7 @@ use Rattle.std.proofs.Common.{◌≡◌, ℕ, suc, ◌+◌, ◌-◌, ◌<◌, tr
 use Rattle.std.proofs.lemmas.List.{get_or-replicate}
 use Rattle.outcomes.specs.Trees.{Sample}
 use Rattle.design.specs.Design.{in_run}
-use Rattle.design.specs.declared.fraction.Fraction.{Fraction}
+use Rattle.design.specs.Fractions.{Fraction}
 use Rattle.design.specs.declared.row.Row.{Row}
 use Rattle.parts.specs.Parts.{Part, bounds, same_stratum}
 use Rattle.design.specs.Plans.{Plans, nothing}

@@ -1,3 +1,4 @@
 pub mod Cutting
 pub mod Begun
 pub mod ZeroTakes
+pub mod Fields

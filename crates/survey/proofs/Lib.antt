@@ -5,3 +5,5 @@ pub mod Reporting
 pub mod Starting
 pub mod Asking
 pub mod CallLists
+pub mod SomeState
+pub mod Estimating

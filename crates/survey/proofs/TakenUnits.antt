@@ -12,9 +12,9 @@ use Rattle.plain_survey.specs.Reports.{added}
 use Rattle.survey.specs.Adding.{Finished}
 
 -- a unit of a finished run is taken exactly if the outcome holds it
-pub taken_is : (I : Type 0) (st : Standing) (units : ℕ) (u : Sample) (k : ℕ) (b : Bool) → Finished I st units u → (I → Taken st k (Ok b)) → b ≡ u k
-taken_is I st units u k b f taken =
-    let h = subst (λ s. Taken s k (Ok b)) f.stands (taken f.intact) in
+pub taken_is : (st : Standing) (units : ℕ) (u : Sample) (k : ℕ) (b : Bool) → Finished st units u → Taken st k (Ok b) → b ≡ u k
+taken_is st units u k b f taken =
+    let h = subst (λ s. Taken s k (Ok b)) f.stands taken in
     same b (u k) (λ t. subst (Always k) f.done (h.1.0 t)) (λ t. h.1.1 (subst (Always k) (sym f.done) t))
   where
     same : (a b : Bool) → (T a → T b) → (T b → T a) → a ≡ b

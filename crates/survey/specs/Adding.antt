@@ -10,9 +10,8 @@ use Rattle.design.specs.declared.fault.Fault.{Fault}
 use Rattle.totals.specs.declared.total.Total as Total
 use Rattle.plain_survey.specs.Reports.{Kind, Tally, unlawful_at, row_of_reading, added}
 
--- the run has come to the outcome u, of so many units; I says that the design is intact
-pub record Finished (I : Type 0) (standing : Standing) (units : ℕ) (u : Sample) : Type 0 where
-  pub intact : I
+-- the run has come to the outcome u, of so many units
+pub record Finished (standing : Standing) (units : ℕ) (u : Sample) : Type 0 where
   pub run : Run
   pub stands : standing ≡ in_run run
   pub done : run.tree ≡ finished u
@@ -32,4 +31,4 @@ pub record Adds {R : Type 0} (kind : Kind R) (weights : List ℕ) (readings : Li
 -- the same of the outcome to which the design has come, if it has, and of a total as it is left
 abbrev pub AddsUp : {D T R : Type 0} → Design.Ghosts D → Total.Ghosts T R → D → List ℕ → List R → T → Result ℕ Fault → Type 0
 AddsUp d t design weights readings new result =
-    (u : Sample) → Finished (d.intact design) (d.tree design) (length readings) u → Addable (kind_of t) weights readings → Adds (kind_of t) weights readings u (tally_of t new) result
+    (u : Sample) → Finished (d.tree design) (length readings) u → Addable (kind_of t) weights readings → Adds (kind_of t) weights readings u (tally_of t new) result

@@ -1,53 +1,65 @@
 -- Any call of a survey, and any list of calls: at each of them it is what the plain survey is.
-use Rattle.std.specs.Prelude.{◌≡◌, List, [], ◌∷◌}
+use Rattle.std.specs.Prelude.{◌≡◌, List, [], ◌∷◌, length, take, drop}
 use Rattle.design.specs.declared.design.Design as Design
 use Rattle.throws.specs.declared.source.Source as Source
-use Rattle.totals.specs.declared.total.Total as Total
 use Rattle.plain_survey.specs.States.{State}
-use Rattle.plain_survey.specs.Asking.{Rules, WithTotal, Reply, reply_of, reply, after, replies, after_all, LawsAfter}
+use Rattle.plain_survey.specs.Asking.{Rules, WithTotals, Reply, reply_of, reply, after, replies, after_all, LawsAfter}
 use Rattle.plain_survey.specs.declared.call.Call.{Call}
 use Rattle.plain_survey.specs.declared.call.Answer.{Answer}
-use Rattle.survey.specs.Means.{Means, plans, kind_of, tally_of}
+use Rattle.survey.specs.Means.{Means, plans}
+use Rattle.survey.specs.declared.ledger.Ledger as Ledger
 use Rattle.survey.specs.declared.survey.Survey.{Survey}
 
--- what the settings of a survey's design and a kind of total fix
-abbrev pub rules_of : {D S T R : Type 0} → Design.Ghosts D → Total.Ghosts T R → Survey D S → Rules R
-rules_of d t s = record { plans = plans d s; kind = kind_of t }
+-- what the settings of a survey's design fix, and which reports are asked for
+abbrev pub rules_of : {D S L Q : Type 0} (d : Design.Ghosts D) {w : Source.Ghosts S} → Ledger.Ghosts L Q → Survey D S d w → Rules Q
+rules_of d l s = record { plans = plans d s; requested = l.requested }
 
--- the plain survey's state, and the caller's total
-abbrev pub with_total : {T R : Type 0} → Total.Ghosts T R → State → T → WithTotal
-with_total t st total = record { state = st; total = tally_of t total }
+-- the plain survey's state, and the caller's totals
+abbrev pub with_totals : {L Q : Type 0} → Ledger.Ghosts L Q → State → L → WithTotals
+with_totals l st ledger = record { state = st; totals = l.tallies ledger }
 
--- a call, asked of the plain survey v: the answer is its answer, the survey and the total are what they are after it, and the laws hold
-pub record DoesAs {D S T R : Type 0} (d : Design.Ghosts D) (w : Source.Ghosts S) (t : Total.Ghosts T R) (rules : Rules R) (v : WithTotal) (call : Call R) (answer : Answer) (new : Survey D S) (total : T) : Type 0 where
+-- a call, asked of the plain survey v: the answer is its answer, the survey and the totals are what they are after it, and the laws hold
+pub record DoesAs {D S L Q : Type 0} (d : Design.Ghosts D) (w : Source.Ghosts S) (l : Ledger.Ghosts L Q) (rules : Rules Q) (v : WithTotals) (call : Call Q) (answer : Answer) (new : Survey D S d w) (ledger : L) : Type 0 where
   pub answers : reply_of answer ≡ reply rules v call
   pub means : Means d w new (after rules v call).state
-  pub leaves : tally_of t total ≡ (after rules v call).total
+  pub leaves : l.tallies ledger ≡ (after rules v call).totals
   pub laws : LawsAfter rules v call
 
--- a call leads from one survey and total to the next, as it does from each state that the survey means; the settings stay
-pub record Obeys {D S T R : Type 0} (d : Design.Ghosts D) (w : Source.Ghosts S) (t : Total.Ghosts T R) (call : Call R) (answer : Answer) (old : Survey D S) (total_old : T) (new : Survey D S) (total_new : T) : Type 0 where
+-- a call leads from one survey and its totals to the next, as it does from each state that the survey means; the settings stay
+pub record Obeys {D S L Q : Type 0} (d : Design.Ghosts D) (w : Source.Ghosts S) (l : Ledger.Ghosts L Q) (call : Call Q) (answer : Answer) (old : Survey D S d w) (ledger_old : L) (new : Survey D S d w) (ledger_new : L) : Type 0 where
   pub settings : plans d new ≡ plans d old
-  pub does : (st : State) → Means d w old st → DoesAs d w t (rules_of d t old) (with_total t st total_old) call answer new total_new
+  pub does : (st : State) → Means d w old st → DoesAs d w l (rules_of d l old) (with_totals l st ledger_old) call answer new ledger_new
 
--- calls made one after another, each from the survey and the total that the one before it left
-abbrev pub EachObeys : {D S T R : Type 0} → Design.Ghosts D → Source.Ghosts S → Total.Ghosts T R → List (Call R) → List Answer → Survey D S → T → Survey D S → T → Type 0
-EachObeys d w t [] [] old total_old new total_new = (new ≡ old) × (total_new ≡ total_old)
-EachObeys d w t [] (a ∷ more) old total_old new total_new = ⊥
-EachObeys d w t (c ∷ cs) [] old total_old new total_new = ⊥
-EachObeys {D} {S} {T} d w t (c ∷ cs) (a ∷ more) old total_old new total_new =
-    (between : Survey D S) × (total : T) × Obeys d w t c a old total_old between total × EachObeys d w t cs more between total new total_new
+-- ---- a list of calls, and places for their answers: one for each, or fewer, or more
+-- the calls that have a place
+abbrev pub placed : {Q : Type 0} → List (Call Q) → List Answer → List (Call Q)
+placed calls places = take (length places) calls
+
+-- the answers to these, and the places that are left
+abbrev pub answered : {Q : Type 0} → List (Call Q) → List Answer → List Answer
+answered calls places = take (length calls) places
+
+abbrev pub unanswered : {Q : Type 0} → List (Call Q) → List Answer → List Answer
+unanswered calls places = drop (length calls) places
+
+-- calls made one after another, each from the survey and the totals that the one before it left
+abbrev pub EachObeys : {D S L Q : Type 0} (d : Design.Ghosts D) (w : Source.Ghosts S) → Ledger.Ghosts L Q → List (Call Q) → List Answer → Survey D S d w → L → Survey D S d w → L → Type 0
+EachObeys d w l [] [] old ledger_old new ledger_new = (new ≡ old) × (ledger_new ≡ ledger_old)
+EachObeys d w l [] (a ∷ more) old ledger_old new ledger_new = ⊥
+EachObeys d w l (c ∷ cs) [] old ledger_old new ledger_new = ⊥
+EachObeys {D} {S} {L} d w l (c ∷ cs) (a ∷ more) old ledger_old new ledger_new =
+    (between : Survey D S d w) × (ledger : L) × Obeys d w l c a old ledger_old between ledger × EachObeys d w l cs more between ledger new ledger_new
 
 abbrev pub replies_of : List Answer → List Reply
 replies_of [] = []
 replies_of (a ∷ more) = reply_of a ∷ replies_of more
 
--- the whole list, asked of the plain survey v: all answers are its answers, and the survey and the total are what they are at last
-pub record AllAs {D S T R : Type 0} (d : Design.Ghosts D) (w : Source.Ghosts S) (t : Total.Ghosts T R) (rules : Rules R) (v : WithTotal) (calls : List (Call R)) (answers : List Answer) (new : Survey D S) (total : T) : Type 0 where
+-- the whole list, asked of the plain survey v: all answers are its answers, and the survey and the totals are what they are at last
+pub record AllAs {D S L Q : Type 0} (d : Design.Ghosts D) (w : Source.Ghosts S) (l : Ledger.Ghosts L Q) (rules : Rules Q) (v : WithTotals) (calls : List (Call Q)) (answers : List Answer) (new : Survey D S d w) (ledger : L) : Type 0 where
   pub answers_are : replies_of answers ≡ replies rules v calls
   pub means : Means d w new (after_all rules v calls).state
-  pub leaves : tally_of t total ≡ (after_all rules v calls).total
+  pub leaves : l.tallies ledger ≡ (after_all rules v calls).totals
 
 -- so it is from each state that the survey means
-abbrev pub ListObeys : {D S T R : Type 0} → Design.Ghosts D → Source.Ghosts S → Total.Ghosts T R → List (Call R) → List Answer → Survey D S → T → Survey D S → T → Type 0
-ListObeys d w t calls answers old total_old new total_new = (st : State) → Means d w old st → AllAs d w t (rules_of d t old) (with_total t st total_old) calls answers new total_new
+abbrev pub ListObeys : {D S L Q : Type 0} (d : Design.Ghosts D) (w : Source.Ghosts S) → Ledger.Ghosts L Q → List (Call Q) → List Answer → Survey D S d w → L → Survey D S d w → L → Type 0
+ListObeys d w l calls answers old ledger_old new ledger_new = (st : State) → Means d w old st → AllAs d w l (rules_of d l old) (with_totals l st ledger_old) calls answers new ledger_new

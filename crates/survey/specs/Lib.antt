@@ -1,3 +1,4 @@
+pub mod Runs
 pub mod Means
 pub mod Adding
 pub mod Conducting

@@ -12,7 +12,8 @@ use throws::source::Source;
 use throws::throw::throw;
 
 impl<D: Design, S: Source> Survey<D, S> {
-    /// Begins the design on a list, and works out its scale and weights; refused, no run stands.
+    /// Begins the design on a list, and works out its scale and weights. Refused with the design's fault, then 22 (scale above 1,000,000)
+    /// or 23 (first row with a weight above 10^9), and then no run stands.
     pub fn start(&mut self, list: &[Row], n: u32) -> Result<(), Fault>
         ensures answer { told result ≡ start_answer (plans D.Design self.old list.now n) list.now }
         ensures after { ComesTo D.Design S.Source self.old self.new (start_after (plans D.Design self.old list.now n) list.now n (words S.Source self.old)) }
@@ -26,7 +27,8 @@ impl<D: Design, S: Source> Survey<D, S> {
         Ok(())
     }
 
-    /// Makes one throw with the present ways, and goes on to that subtree; dry, no word is left, and the tree stays.
+    /// Makes one throw with the present ways, and goes on to that subtree. Refused with 17 where there is no way; or dry with 21, and then
+    /// no word is left, and the tree stays.
     pub fn draw(&mut self) -> Result<(), Fault>
         ensures answer { Tells D.Design S.Source self.old result draw_answer }
         ensures after { Follows D.Design S.Source self.old self.new draw_after }

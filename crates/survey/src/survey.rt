@@ -2,7 +2,7 @@ ghost use Rattle.std.specs.Prelude.{◌≡◌, IfOk};
 ghost use Rattle.plain_survey.specs.States.{State, ways_now};
 ghost use Rattle.plain_survey.specs.Calls.{stop_after};
 ghost use Rattle.plain_survey.specs.Reports.{has_outcome};
-ghost use Rattle.survey.specs.Means.{Follows, IsNew, Means, plans};
+ghost use Rattle.survey.specs.Runs.{SomeRun};
 
 use design::design::Design;
 use std::alloc::{AllocError, Global};
@@ -17,9 +17,13 @@ pub struct Survey<D: Design, S: Source> {
     pub(crate) weights: Weights,
     // Whether a run stands.
     pub(crate) running: bool,
+    // These fields mean some run of the plain survey, or that none stands.
+    ghost meant: { ∥ SomeRun (D.plan design) (D.tree design) weights running ∥₁ },
 }
 
 impl<D: Design, S: Source> Survey<D, S> {
+    ghost use Rattle.survey.specs.Means.{ComesTo, IsNew, Means, plans, words};
+
     /// A survey with no run, whatever its design did before.
     pub fn new(heap: Global, design: D, source: S) -> Result<Self, AllocError>
     where
@@ -38,7 +42,7 @@ impl<D: Design, S: Source> Survey<D, S> {
 
     /// Ends the run, and leaves the source.
     pub fn stop(&mut self)
-        ensures after { Follows D.Design S.Source self.old self.new stop_after }
+        ensures after { ComesTo D.Design S.Source self.old self.new (stop_after (words S.Source self.old)) }
         ensures settings { plans D.Design self.new ≡ plans D.Design self.old }
     {
         self.running = false;

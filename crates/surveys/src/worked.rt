@@ -1,7 +1,6 @@
 #[cfg(test)]
 mod tests {
     use design::row::Row;
-    use plain_survey::report::Report;
     use poisson::Poisson;
     use std::alloc::Global;
     use std::test::Fail;
@@ -17,7 +16,7 @@ mod tests {
         heap: Global,
         word: u32,
         readings: &[i32; 3],
-    ) -> Result<(Report, Option<i64>), Fail> {
+    ) -> Result<((u32, u32), Option<i64>), Fail> {
         let words = [word];
         let mut survey = Survey::new(heap, Systematic::new(heap)?, Listed::new(&words))?;
         let mut total = Money::new();
@@ -41,7 +40,7 @@ mod tests {
             (2, [0, 1, 0], 3),
             (5, [0, 0, 1], 2),
         ];
-        let report = Report { scale: 2, taken: 2 };
+        let report = (2, 2);
         for (word, readings, amount) in amounts {
             assert_eq!(rt;
                 by_word(rt.alloc(), word, &readings)?,
@@ -64,7 +63,7 @@ mod tests {
             survey.draw()?;
             survey.draw()?;
             let report = survey.report(&[Cell { at: 0 }, Cell { at: 5 }], &mut table)?;
-            assert_eq!(rt; report, Report { scale: 1, taken });
+            assert_eq!(rt; report, (1, taken));
             assert_eq!(rt;
                 [
                     table.entry(0),

@@ -1,12 +1,12 @@
--- When a throw is dry, and how often each answer stands among the words that serve.
-use Rattle.std.proofs.Common.{◌≡◌, ℕ, zero, suc, ◌+◌, ◌*◌, ◌/◌, ◌%◌, ◌^◌, ◌<◌, Bool, true, false, cond, eqb, ltb, List, [], ◌∷◌, Ok, Err, sym, refl, ap, ◌∙◌, mod-eq_of_lt, mod-lt, arith}
+-- When a throw is dry, which words it passes over, and how often each answer stands among the words that serve.
+use Rattle.std.proofs.Common.{◌≡◌, ℕ, zero, suc, ◌+◌, ◌*◌, ◌/◌, ◌%◌, ◌^◌, ◌<◌, Bool, true, false, cond, eqb, ltb, List, [], ◌∷◌, ◌++◌, Ok, Err, sym, refl, ap, ◌∙◌, mod-eq_of_lt, mod-lt, arith}
 use native.Mathlib.Nat.{add-mul-mod_self_right}
-use Rattle.std.proofs.lemmas.Bool.{ltb-false, le-ltb, eq-eqb, ne_eqb, cond-true}
+use Rattle.std.proofs.lemmas.Bool.{ltb-true, ltb-false, le-ltb, eq-eqb, ne_eqb, cond-true}
 use Rattle.outcomes.specs.Sums.{sum, count}
 use Rattle.outcomes.proofs.Sums.{sum_same, sum_single, sum_split}
 use Rattle.design.specs.Faults.{refusal}
 use Rattle.throws.specs.Words.{limit, serving, remainder, rest, in_range, thrown}
-use Rattle.throws.specs.Laws.{AllFrom, DryExactly, EachAsOften}
+use Rattle.throws.specs.Laws.{AllFrom, DryExactly, EachAsOften, PassedOver}
 
 -- ---- an answer is below the ways
 remainder_below : (m : ℕ) (ws : List ℕ) (d : ℕ) → 0 < m → remainder m ws ≡ Ok d → d < m
@@ -44,6 +44,39 @@ dry_exactly m ws r =
       λ e. all_above (limit m) ws (dry_empty m (serving (limit m) ws) (sym is ∙ e)),
       λ a. let n = none_serves (limit m) ws a in (is ∙ ap (remainder m) n, cond-true (in_range m) (rest (serving (limit m) ws)) ws r ∙ ap rest n),
     )
+
+-- ---- the words before the first that serves are passed over, and `after` waits
+abbrev Serving : (l m d : ℕ) (ws after : List ℕ) → Type 0
+Serving l m d ws after = (passed : List ℕ) × (w : ℕ) × (ws ≡ passed ++ w ∷ after) × AllFrom l passed × (w < l) × (d ≡ w % m)
+
+first_serves : (l m d : ℕ) (ws : List ℕ) → remainder m (serving l ws) ≡ Ok d → Serving l m d ws (rest (serving l ws))
+first_serves l m d [] e = absurd (let z : ◌≡◌ {A = ℕ} 0 1 = cc in (let y : ⊥ = omega arith in y))
+first_serves l m d (v ∷ ws) e = go (first_serves l m d ws) (ltb v l) refl e
+  where
+    go : (remainder m (serving l ws) ≡ Ok d → Serving l m d ws (rest (serving l ws)))
+        → (b : Bool) → ltb v l ≡ b → remainder m (cond b (v ∷ ws) (serving l ws)) ≡ Ok d
+        → Serving l m d (v ∷ ws) (rest (cond b (v ∷ ws) (serving l ws)))
+    go k true t h = ([], v, refl, tt, ltb-true v l t, cc)
+    go k false t h = let f = k h in (v ∷ f.0, f.1, ap (λ xs. v ∷ xs) f.2, (ltb-false v l t, f.3), f.4, f.5)
+
+thrown_in_range : (m : ℕ) (ws : List ℕ) (d : ℕ) → thrown m ws ≡ Ok d → in_range m ≡ true
+thrown_in_range m ws d e = go (in_range m) e
+  where
+    go : (b : Bool) → cond b (remainder m (serving (limit m) ws)) (Err (refusal 20)) ≡ Ok d → b ≡ true
+    go true h = refl
+    go false h = absurd (let z : ◌≡◌ {A = ℕ} 0 1 = cc in (let y : ⊥ = omega arith in y))
+
+pub passed_over : PassedOver
+passed_over m ws d e =
+    let r = thrown_in_range m ws d e in
+    let f = first_serves (limit m) m d ws (sym (cond-true (in_range m) (remainder m (serving (limit m) ws)) (Err (refusal 20)) r) ∙ e) in record {
+      passed = f.0;
+      word = f.1;
+      waited = f.2 ∙ ap (λ after. f.0 ++ f.1 ∷ after) (sym (cond-true (in_range m) (rest (serving (limit m) ws)) ws r));
+      too_high = f.3;
+      serves = f.4;
+      answer = f.5;
+    }
 
 -- ---- as often: in each run of m numbers that begins at a multiple of m, d is the remainder of one
 once : (m d q : ℕ) → d < m → sum m (λ i. cond (eqb ((q * m + i) % m) d) 1 0) ≡ 1

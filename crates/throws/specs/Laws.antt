@@ -1,5 +1,5 @@
 -- The laws of throws, as statements.
-use Rattle.std.specs.Prelude.{◌≡◌, ℕ, ◌/◌, ◌%◌, ◌^◌, ◌<◌, ◌≤◌, true, List, [], ◌∷◌, Err, nat_eq}
+use Rattle.std.specs.Prelude.{◌≡◌, ℕ, ◌/◌, ◌%◌, ◌^◌, ◌<◌, ◌≤◌, true, List, [], ◌∷◌, ◌++◌, Ok, Err, nat_eq}
 use Rattle.outcomes.specs.Sums.{count}
 use Rattle.design.specs.Faults.{refusal}
 use Rattle.throws.specs.Words.{limit, in_range, thrown, left}
@@ -18,3 +18,17 @@ DryExactly = (m : ℕ) (ws : List ℕ) → in_range m ≡ true
 -- of the words below the limit, each answer d below m is the remainder of equally many
 abbrev pub EachAsOften : Type 0
 EachAsOften = (m d : ℕ) → d < m → count (limit m) (λ w. nat_eq (w % m) d) ≡ 2 ^ 32 / m
+
+-- a throw with m ways answered d while ws waited: the words before the one that serves were passed over, as each is at least the
+-- limit; the one that serves is below it, and d is its remainder; what follows it is left
+pub record Served (m : ℕ) (ws : List ℕ) (d : ℕ) : Type 0 where
+  pub passed : List ℕ
+  pub word : ℕ
+  pub waited : ws ≡ passed ++ word ∷ left m ws
+  pub too_high : AllFrom (limit m) passed
+  pub serves : word < limit m
+  pub answer : d ≡ word % m
+
+-- every throw that answers was served so
+abbrev pub PassedOver : Type 0
+PassedOver = (m : ℕ) (ws : List ℕ) (d : ℕ) → thrown m ws ≡ Ok d → Served m ws d

@@ -20,7 +20,7 @@ pub struct Listed<'a> {
 impl<'a> Listed<'a> {
     /// All words of the list wait.
     pub fn new(words: &'a [u32]) -> Listed<'a>
-        ensures { listed result ≡ words.now }
+        ensures { ⟦<Listed<'a> as Source>⟧.waiting result ≡ words.now }
     {
         Listed { words }
     }
@@ -46,7 +46,7 @@ pub struct Xorshift32 {
 impl Xorshift32 {
     /// The generator at this seed, with so many words; with seed 0 nothing waits.
     pub fn new(seed: u32, count: u32) -> Xorshift32
-        ensures { generated result ≡ generator seed count }
+        ensures { ⟦<Xorshift32 as Source>⟧.waiting result ≡ generator seed count }
     {
         let count = if seed == 0 { 0 } else { count };
         Xorshift32 { state: seed, count }

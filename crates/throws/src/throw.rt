@@ -1,7 +1,7 @@
 ghost use Rattle.std.specs.Prelude.{◌≡◌};
 ghost use Rattle.design.specs.Faults.{told};
 ghost use Rattle.throws.specs.Words.{thrown, left};
-ghost use Rattle.throws.specs.Laws.{DryExactly, EachAsOften};
+ghost use Rattle.throws.specs.Laws.{DryExactly, EachAsOften, PassedOver};
 
 use crate::source::Source;
 use design::fault::{Fault, Reason};
@@ -26,8 +26,10 @@ pub fn throw<S: Source>(source: &mut S, m: u32) -> Result<u32, Fault>
     Err(Fault::of(Reason::Dry))
 }
 
-/// A throw is dry exactly where no waiting word serves, and among the words that serve each answer stands equally often.
+/// A throw is dry exactly where no waiting word serves; among the words that serve each answer stands equally often; and a
+/// throw that answers passes over the words that do not serve, up to the first that does.
 pub fn throws_stand()
     ensures dry_exactly { DryExactly }
     ensures each_as_often { EachAsOften }
+    ensures passed_over { PassedOver }
 {}

@@ -5,7 +5,7 @@ use Rattle.outcomes.specs.Trees.{Lawful}
 use Rattle.design.specs.Faults.{or_else, first_of, refused_at}
 use Rattle.design.specs.Lists.{first}
 use Rattle.design.specs.Design.{Plan, refuses, accepts, Standing, in_run, SoundPlan}
-use Rattle.design.specs.declared.fraction.Fraction.{Fraction}
+use Rattle.design.specs.Fractions.{Fraction}
 use Rattle.design.specs.declared.row.Row.{Row}
 use Rattle.parts.specs.Parts.{Part, bounds, same_cluster, place_of}
 use Rattle.design.specs.Plans.{Plans, denominator_of}
@@ -36,7 +36,7 @@ module _ (B : Plans) (w : Tables) (L : Loaded B w) (a : Plan) (st : Standing) (b
   products_are =
       ap (λ (o : Option ℕ). refused_at o 16)
       (first_same (length w.rows) (large_product st w) (too_large (stage_denominators a B (all_parts w)))
-      (λ k l. ap₂ (λ (c d : ℕ). ltb (10 ^ 15) (c * d)) (denominator_begun a st (place_of 0 (all_parts w) k) b) (ap (λ (s : Fraction). s.denominator) (L.shares_are k l))))
+      (λ k l. ap₂ (λ (c d : ℕ). ltb (10 ^ 15) (c * d)) (denominator_begun a st (place_of 0 (all_parts w) k) b) (ap (λ (s : Fraction). s.1) (L.shares_are k l))))
       ∙ ap₂ (λ (n : ℕ) (qs : List Part). refused_at (first n (too_large (stage_denominators a B qs))) 16) r p
 
   pub first_run : in_first B w st ≡ in_run (stages_run a B ps (length list))
@@ -52,8 +52,8 @@ module _ (B : Plans) (w : Tables) (L : Loaded B w) (a : Plan) (st : Standing) (b
             denominator = λ k. run.denominator (place_of 0 qs k) * denominators B qs k;
           })) p r
 
-  pub first_underway : (I : Type 0) → I → SoundPlan (map cluster_row ps) a → product_refusal a B ps (length list) ≡ None → FirstUnderway I B w st
-  first_underway I i s e = record { intact = i; loaded = L; fits = by a b s e }
+  pub first_underway : SoundPlan (map cluster_row ps) a → product_refusal a B ps (length list) ≡ None → FirstUnderway B w st
+  first_underway s e = record { loaded = L; fits = by a b s e }
     where
       by : (a : Plan) → Begins a st → SoundPlan (map cluster_row ps) a → product_refusal a B ps (length list) ≡ None → Fits B w st
       by (refuses f) b s e = absurd b

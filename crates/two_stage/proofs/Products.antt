@@ -1,7 +1,7 @@
 -- The products of denominators, as a search over the units finds them.
 use Rattle.std.proofs.Common.{◌≡◌, ℕ, ◌*◌, ◌^◌, ◌<◌, ◌≤◌, Bool, true, false, ltb, length, MatchOption, Some, None, Option, sym, ap, ◌∙◌, ap₂, arith}
 use Rattle.design.specs.Lists.{first}
-use Rattle.design.specs.declared.fraction.Fraction.{Fraction}
+use Rattle.design.specs.Fractions.{Fraction}
 use Rattle.design.proofs.Firsts.{first_here, none_first}
 use Rattle.design.specs.Design.{Standing}
 use Rattle.parts.specs.Seats.{Seated}
@@ -15,10 +15,10 @@ use Rattle.series.proofs.Tabled.{rising, counted}
 
 -- the test at the unit k, whose cluster is j
 pub test_is : (t : PartTable) (st : Standing) (k j a : ℕ) (s : Fraction) (x : Bool) → units_of st ≡ length (all_parts (tables t)) → Seated (tables t).bounds k j
-    → (j < units_of st → a ≡ denominator_at st j) → s ≡ share_at (tables t) k → x ≡ ltb (10 ^ 15) (a * s.denominator) → large_product st (tables t) k ≡ x
+    → (j < units_of st → a ≡ denominator_at st j) → s ≡ share_at (tables t) k → x ≡ ltb (10 ^ 15) (a * s.1) → large_product st (tables t) k ≡ x
 test_is t st k j a s x u seat den is e =
     let inside : j < units_of st = omega (arith, seat.place, u, counted t, t.chosen_all) in
-    sym (e ∙ ap₂ (λ (c d : ℕ). ltb (10 ^ 15) (c * d)) (den inside ∙ ap (denominator_at st) (sym (seat_place (tables t) (rising t) k j seat))) (ap (λ (f : Fraction). f.denominator) is))
+    sym (e ∙ ap₂ (λ (c d : ℕ). ltb (10 ^ 15) (c * d)) (den inside ∙ ap (denominator_at st) (sym (seat_place (tables t) (rising t) k j seat))) (ap (λ (f : Fraction). f.1) is))
 
 -- what the search for such a product finds, among the units up to m
 pub large_found : (n m : ℕ) (p : ℕ → Bool) (o : Option ℕ) → m ≡ n

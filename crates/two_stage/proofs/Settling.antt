@@ -37,17 +37,17 @@ second_same B v w (in_run r) (in_run s) p n =
     ap₂ (λ (ps : List Part) (rows : ℕ). in_run (record { tree = s.tree; units = rows; denominator = λ k. r.denominator (place_of 0 ps k) * denominators B ps k })) p n
 
 -- ---- the second stage begins, on the parts that are chosen; the second design has just begun on the first of all
-pub ready_chosen : {D : Type 0} (G : Design.Ghosts D) (s x : Series D) {c : Sample} → Loaded (plans G s) (tables_of s) → AtPart (G.intact s.below) (plans G s) (tables_of s) 0 (G.tree s.below)
+pub ready_chosen : {D : Type 0} (G : Design.Ghosts D) (s x : Series D) {c : Sample} → Loaded (plans G s) (tables_of s) → AtPart (plans G s) (tables_of s) 0 (G.tree s.below)
     → x.below ≡ s.below → Chosen c (tables_of s) (tables_of x) → IsReady G x
 ready_chosen {D} G s x {c} L at below ch =
-    subst (λ (b : D). Ready (G.intact b) (G.plan b) (tables_of x) (G.tree b)) (sym below)
-    (subst (λ (w : Tables). Ready (G.intact s.below) (G.plan s.below) w (G.tree s.below)) (sym ch.same) (record {
+    subst (λ (b : D). Ready (G.plan b) (tables_of x) (G.tree b)) (sym below)
+    (subst (λ (w : Tables). Ready (G.plan s.below) w (G.tree s.below)) (sym ch.same) (record {
       loaded = record { rising = L.rising; accepted = L.accepted; shares_are = L.shares_are };
       at_first = λ l. at (omega (arith, l, ch.as_many));
     }))
 
 -- ---- the second stage begins, on the parts that the first design has taken
-module _ (I : Type 0) (B : Plans) (v : Tables) (st : Standing) (u : FirstUnderway I B v st) (end : ways_of st ≡ 0) (count : length v.chosen ≡ length (all_parts v)) (w : Tables)
+module _ (B : Plans) (v : Tables) (st : Standing) (u : FirstUnderway B v st) (end : ways_of st ≡ 0) (count : length v.chosen ≡ length (all_parts v)) (w : Tables)
     (ch : Chosen (outcome_of st) v w) where
   chosen_parts : all_parts w ≡ all_parts v
   chosen_parts = ap all_parts ch.same
@@ -55,14 +55,13 @@ module _ (I : Type 0) (B : Plans) (v : Tables) (st : Standing) (u : FirstUnderwa
   chosen_rows : length w.rows ≡ length v.rows
   chosen_rows = ap (λ (x : Tables). length x.rows) ch.same
 
-  pub settled : (J : Type 0) (C : Plans) (x : Tables) (su : Standing) → C ≡ B → SameList w x → Intact J C x su → standing_of C x su ≡ run_from B w 0 nothing
-      → InSecond I J C x st su × (in_second C x st (standing_of C x su) ≡ in_first B v st)
-  settled J C x su e s h r =
+  pub settled : (C : Plans) (x : Tables) (su : Standing) → C ≡ B → SameList w x → Intact C x su → standing_of C x su ≡ run_from B w 0 nothing
+      → InSecond C x st su × (in_second C x st (standing_of C x su) ≡ in_first B v st)
+  settled C x su e s h r =
       let p = parts_same w x s in
       let n : length x.rows ≡ length w.rows = ap length s.rows in (
         record {
           underway = record {
-            intact = u.intact;
             loaded = h.underway.loaded;
             fits = subst (λ (P : Plans). Fits P x st) (sym e) (fits_same B w x st p n (fits_same B v w st chosen_parts chosen_rows u.fits));
           };

@@ -1,5 +1,5 @@
 -- What is answered of a frame, made of what is answered of its scale and of its weights.
-use Rattle.std.proofs.Common.{◌≡◌, ℕ, ◌*◌, ◌<◌, ◌≤◌, true, Some, None, Ok, Err, Option, Result, slice_index, refl, sym, ap, ◌∙◌, subst, arith}
+use Rattle.std.proofs.Common.{◌≡◌, ℕ, ◌≤◌, true, Some, None, Ok, Err, Option, Result, refl, sym, ◌∙◌, subst, arith}
 use Rattle.std.proofs.lemmas.Bool.{false≢true}
 use Rattle.std.specs.Result.{is_err}
 use Rattle.design.proofs.Firsts.{accepted, refused_by}
@@ -8,9 +8,7 @@ use Rattle.design.specs.Faults.{Answers, Refusal, or_else}
 use Rattle.design.specs.declared.fault.Fault.{Fault}
 use Rattle.weights.specs.Begun.{HaveWeights, JustBegun, OfPrescribed}
 use Rattle.weights.specs.Of.{Weighs, scale_in, weights_in}
-use Rattle.weights.specs.Laws.{SharesAboveNone}
-use Rattle.weights.proofs.Scales.{weights_exact}
-use Rattle.weights.specs.Scale.{design_weight, scale_of, scale_refusal, weight_refusal, weights_refusal}
+use Rattle.weights.specs.Scale.{scale_of, scale_refusal, weight_refusal, weights_refusal}
 use Rattle.weights.specs.declared.Weights.{Weights}
 
 -- ---- answers
@@ -57,12 +55,4 @@ scale_stood {U} units num den scale w r same a b =
 pub capped : {D : Type 0} (G : Design.Ghosts D) (d : D) (u units : ℕ) (Q : ℕ → (ℕ → ℕ) → (ℕ → ℕ) → Type 0) → (units ≤ 1024 → u ≡ units)
     → OfPrescribed G d u (Q u) → OfPrescribed G d units (Q units)
 capped G d u units Q same a list num run h =
-    subst (λ n. JustBegun (G.intact d) (G.tree d) n list num run → Q n num run.denominator) (same (omega (arith, h.all, h.sound.few_rows))) (a list num run) h
-
--- ---- for those who rely on the weights
--- a weight of a frame is the scale over the unit's share, exactly
-pub weighs_exactly : (units : ℕ) (num den : ℕ → ℕ) (w : Weights) → Weighs units num den w → SharesAboveNone units num
-    → (k : ℕ) → k < units → slice_index (weights_in w) k * num k ≡ scale_in w * den k
-weighs_exactly units num den w h some k l =
-    ap (λ n. n * num k) (h.have_weights.weights_are k l ∙ ap (λ n. design_weight n (num k) (den k)) h.scale_is)
-    ∙ weights_exact units num den some k l ∙ ap (λ n. n * den k) (sym h.scale_is)
+    subst (λ n. JustBegun (G.tree d) n list num run → Q n num run.denominator) (same (omega (arith, h.all, h.sound.few_rows))) (a list num run) h

@@ -7,7 +7,7 @@ use Rattle.design.proofs.Firsts.{accepted}
 use Rattle.design.specs.Design.{Run, Standing, Shared}
 use Rattle.design.specs.Faults.{Answers, numbered, refusal_at, refused_if}
 use Rattle.design.specs.declared.fault.Fault.{Fault}
-use Rattle.design.specs.declared.fraction.Fraction.{Fraction}
+use Rattle.design.specs.Fractions.{Fraction}
 use Rattle.design.specs.declared.row.Row.{Row}
 use Rattle.weights.specs.Begun.{JustBegun}
 use Rattle.weights.specs.Laws.{SharesAboveNone}
@@ -17,18 +17,18 @@ use Rattle.weights.proofs.Divisors.{top_positive}
 
 -- ---- shares
 pub record Prescribed (num den : ℕ → ℕ) (k : ℕ) (share : Fraction) : Type 0 where
-  pub numerator : share.numerator ≡ num k
-  pub denominator : share.denominator ≡ den k
+  pub numerator : share.0 ≡ num k
+  pub denominator : share.1 ≡ den k
 
-pub prescribed : (I : Type 0) (standing : Standing) (units : ℕ) (list : List Row) (num : ℕ → ℕ) (run : Run) (k : ℕ) (share : Fraction)
-    → JustBegun I standing units list num run → (I → Shared standing k (Ok share)) → Prescribed num run.denominator k share
-prescribed I standing units list num run k share h answer =
-    let e = prescribed_first list num run k share h.sound (subst (λ s. Shared s k (Ok share)) h.stands (answer h.intact)) in
+pub prescribed : (standing : Standing) (units : ℕ) (list : List Row) (num : ℕ → ℕ) (run : Run) (k : ℕ) (share : Fraction)
+    → JustBegun standing units list num run → Shared standing k (Ok share) → Prescribed num run.denominator k share
+prescribed standing units list num run k share h answer =
+    let e = prescribed_first list num run k share h.sound (subst (λ s. Shared s k (Ok share)) h.stands answer) in
     record { numerator = e.0; denominator = e.1 }
 
-pub all_some : (I : Type 0) (standing : Standing) (units : ℕ) (list : List Row) (num : ℕ → ℕ) (run : Run)
-    → JustBegun I standing units list num run → SharesAboveNone units num
-all_some I standing units list num run h k l = omega (arith, (h.sound.prescribed k (omega (arith, h.all))).0)
+pub all_some : (standing : Standing) (units : ℕ) (list : List Row) (num : ℕ → ℕ) (run : Run)
+    → JustBegun standing units list num run → SharesAboveNone units num
+all_some standing units list num run h k l = omega (arith, (h.sound.prescribed k (omega (arith, h.all))).0)
 
 -- ---- the scale
 -- a scale that is refused passes the limit
@@ -59,13 +59,13 @@ pub record OneMore (units k : ℕ) (num den : ℕ → ℕ) (scale p : ℕ) : Typ
   pub next : lcm scale p ≡ scale_of (k + 1) num den
   pub rises : lcm scale p ≤ scale_of units num den
 
-pub one_more : (I : Type 0) (standing : Standing) (units : ℕ) (list : List Row) (num : ℕ → ℕ) (run : Run) (k : ℕ) (share : Fraction) (scale p : ℕ)
-    → JustBegun I standing units list num run → k < units → (I → Shared standing k (Ok share)) → scale ≡ scale_of k num run.denominator
-    → p ≡ top share.numerator share.denominator → OneMore units k num run.denominator scale p
-one_more I standing units list num run k share scale p h l answer e f =
+pub one_more : (standing : Standing) (units : ℕ) (list : List Row) (num : ℕ → ℕ) (run : Run) (k : ℕ) (share : Fraction) (scale p : ℕ)
+    → JustBegun standing units list num run → k < units → Shared standing k (Ok share) → scale ≡ scale_of k num run.denominator
+    → p ≡ top share.0 share.1 → OneMore units k num run.denominator scale p
+one_more standing units list num run k share scale p h l answer e f =
     let den : ℕ → ℕ = run.denominator in
-    let some : SharesAboveNone units num = all_some I standing units list num run h in
-    let is = prescribed I standing units list num run k share h answer in
+    let some : SharesAboveNone units num = all_some standing units list num run h in
+    let is = prescribed standing units list num run k share h answer in
     let t : p ≡ top (num k) (den k) = f ∙ ap₂ top is.numerator is.denominator in
     let next : lcm scale p ≡ scale_of (k + 1) num den = rw add-one (ap₂ lcm e t) in
     record {

@@ -8,7 +8,7 @@ use Rattle.design.specs.Design.{Run, Standing, Shared}
 use Rattle.design.specs.Faults.{Answers, numbered, refusal_at}
 use Rattle.design.specs.Lists.{first}
 use Rattle.design.specs.declared.fault.Fault.{Fault}
-use Rattle.design.specs.declared.fraction.Fraction.{Fraction}
+use Rattle.design.specs.Fractions.{Fraction}
 use Rattle.design.specs.declared.row.Row.{Row}
 use Rattle.weights.specs.Begun.{HaveWeights, JustBegun}
 use Rattle.weights.specs.Scale.{NoneTooHeavy, design_weight, gcd, too_heavy, top, bottom, weight_refusal}
@@ -33,12 +33,12 @@ weight_is scale n d s q p m some e f g h =
     ap₂ (λ x y. x / y) (ap₂ (λ x y. x * y) e f) whole ∙ turned_over scale n d some
 
 -- the weight of a unit of a design that has just begun
-pub weight_of_unit : (I : Type 0) (standing : Standing) (units : ℕ) (list : List Row) (num : ℕ → ℕ) (run : Run) (k : ℕ) (share : Fraction) (scale weight : ℕ)
-    → JustBegun I standing units list num run → k < units → (I → Shared standing k (Ok share))
-    → (0 < share.numerator → weight ≡ design_weight scale share.numerator share.denominator) → weight ≡ design_weight scale (num k) (run.denominator k)
-weight_of_unit I standing units list num run k share scale weight h l answer is =
-    let p = prescribed I standing units list num run k share h answer in
-    let some : 0 < num k = all_some I standing units list num run h k l in
+pub weight_of_unit : (standing : Standing) (units : ℕ) (list : List Row) (num : ℕ → ℕ) (run : Run) (k : ℕ) (share : Fraction) (scale weight : ℕ)
+    → JustBegun standing units list num run → k < units → Shared standing k (Ok share)
+    → (0 < share.0 → weight ≡ design_weight scale share.0 share.1) → weight ≡ design_weight scale (num k) (run.denominator k)
+weight_of_unit standing units list num run k share scale weight h l answer is =
+    let p = prescribed standing units list num run k share h answer in
+    let some : 0 < num k = all_some standing units list num run h k l in
     is (omega (arith, p.numerator, some)) ∙ ap₂ (design_weight scale) p.numerator p.denominator
 
 -- ---- one weight more

@@ -5,10 +5,9 @@ use Rattle.design.specs.declared.design.Design as Design
 use Rattle.design.specs.declared.row.Row.{Row}
 use Rattle.weights.specs.Scale.{design_weight}
 
--- an intact design (I says that it is) stands at a run that is sound for this list of so many units, with these numerators: as it does directly after it has
--- accepted the list, when they are the prescribed ones
-pub record JustBegun (I : Type 0) (standing : Standing) (units : ℕ) (list : List Row) (num : ℕ → ℕ) (run : Run) : Type 0 where
-  pub intact : I
+-- a design stands at a run that is sound for this list of so many units, with these numerators: as it does directly after it has accepted the
+-- list, when they are the prescribed ones
+pub record JustBegun (standing : Standing) (units : ℕ) (list : List Row) (num : ℕ → ℕ) (run : Run) : Type 0 where
   pub stands : standing ≡ in_run run
   pub sound : Sound list num run
   pub all : units ≡ length list
@@ -16,7 +15,7 @@ pub record JustBegun (I : Type 0) (standing : Standing) (units : ℕ) (list : Li
 -- what is said of the prescribed numerators and denominators of a design that has just begun on so many units
 abbrev pub OfPrescribed : {D : Type 0} → Design.Ghosts D → D → ℕ → ((ℕ → ℕ) → (ℕ → ℕ) → Type 0) → Type 0
 OfPrescribed G d units Q =
-    (list : List Row) (num : ℕ → ℕ) (run : Run) → JustBegun (G.intact d) (G.tree d) units list num run → Q num run.denominator
+    (list : List Row) (num : ℕ → ℕ) (run : Run) → JustBegun (G.tree d) units list num run → Q num run.denominator
 
 -- each of so many units has its design weight at this scale
 pub record HaveWeights (units : ℕ) (num den : ℕ → ℕ) (scale : ℕ) (weights : List ℕ) : Type 0 where

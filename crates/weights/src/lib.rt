@@ -10,8 +10,6 @@ use design::limits::MOST_ROWS;
 pub mod scale;
 mod setting;
 pub mod terms;
-#[cfg(test)]
-mod tests;
 mod values;
 pub mod weighing;
 

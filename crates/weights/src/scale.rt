@@ -33,8 +33,8 @@ pub(crate) fn find_scale<D: Design>(design: &D, units: u32) -> Result<u32, Fault
 {
     let mut scale = 1;
     for k in 0..units {
-        let share = lowest_terms(design.share(k)?);
-        scale = least_common_multiple(scale, share.numerator)?;
+        let (top, _) = lowest_terms(design.share(k)?);
+        scale = least_common_multiple(scale, top)?;
     }
     Ok(scale as u32)
 }

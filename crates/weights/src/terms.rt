@@ -16,10 +16,11 @@ pub fn common_divisor(a: u64, b: u64) -> u64
 
 /// The same share in lowest terms.
 pub fn lowest_terms(share: Fraction) -> Fraction
-    ensures numerator { result.numerator ≡ top share.numerator share.denominator }
-    ensures denominator { result.denominator ≡ bottom share.numerator share.denominator }
+    ensures numerator { result.0 ≡ top share.0 share.1 }
+    ensures denominator { result.1 ≡ bottom share.0 share.1 }
 {
     // The common divisor is 0 for 0 / 0 alone, which is left as it is.
-    let common = common_divisor(share.numerator, share.denominator).max(1);
-    Fraction::new(share.numerator / common, share.denominator / common)
+    let (numerator, denominator) = share;
+    let common = common_divisor(numerator, denominator).max(1);
+    (numerator / common, denominator / common)
 }

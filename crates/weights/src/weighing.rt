@@ -11,9 +11,10 @@ use design::limits::{LARGEST_WEIGHT, MOST_ROWS};
 
 // The scale times the share turned over, which is the same in lowest terms or not: 128 bits hold the product of any two such numbers.
 fn weight_of(scale: u32, share: Fraction) -> u128
-    ensures { 0 < share.numerator → result ≡ design_weight scale share.numerator share.denominator }
+    ensures { 0 < share.0 → result ≡ design_weight scale share.0 share.1 }
 {
-    u128::from(scale) * u128::from(share.denominator) / u128::from(share.numerator.max(1))
+    let (numerator, denominator) = share;
+    u128::from(scale) * u128::from(denominator) / u128::from(numerator.max(1))
 }
 
 /// Notes the weight of each of so many units of a design that has just begun, or refuses the first one whose weight is too large.

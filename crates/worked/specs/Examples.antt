@@ -4,7 +4,8 @@ use Rattle.outcomes.specs.Trees.{Share, weight, weight_of, inclusion, expectℤ}
 use Rattle.design.specs.Faults.{refusal_at}
 use Rattle.design.specs.Lists.{total}
 use Rattle.design.specs.Design.{Plan, refuses}
-use Rattle.design.specs.Plans.{tree_of, fraction, share_of}
+use Rattle.design.specs.Plans.{tree_of, share_of}
+use Rattle.design.specs.Fractions.{fraction}
 use Rattle.design.specs.declared.row.Row.{Row}
 use Rattle.methods.specs.Plain.{goals}
 use Rattle.methods.specs.Systematic.{systematic_plan}

@@ -9,7 +9,6 @@ use super::Holdings;
 use bounded::BoundedVec;
 use design::check::check_list;
 use design::fault::{Fault, Reason};
-use design::fraction::Fraction;
 use design::limits::MOST_ROWS;
 use design::row::Row;
 use std::alloc::{AllocError, Global};
@@ -95,11 +94,11 @@ impl Holdings {
     }
 
     /// The share of the unit k: what it holds, over the total.
-    pub fn share(&self, k: u32) -> Result<Fraction, Fault>
+    pub fn share(&self, k: u32) -> Result<(u64, u64), Fault>
         ensures { HeldShare (runs self.now) (whole self.now) (held self.now) k result }
     {
         match (self.total, self.holds.as_slice().get(k as usize)) {
-            (Some(total), Some(held)) => Ok(Fraction::new(u64::from(*held), u64::from(total))),
+            (Some(total), Some(held)) => Ok((u64::from(*held), u64::from(total))),
             _ => Err(Fault::of(Reason::NoSuchUnit)),
         }
     }

@@ -9,7 +9,6 @@ use crate::kind::PartKind;
 use bounded::BoundedVec;
 use design::check::check_count;
 use design::fault::Fault;
-use design::fraction::Fraction;
 use design::row::Row;
 use std::alloc::{AllocError, Global};
 
@@ -56,7 +55,7 @@ impl PartTable {
         ensures { tables self.new ≡ newly_cut (alike kind) list.now }
     {
         self.rows.copy_from(list);
-        self.shares.fill(list.len(), Fraction::new(0, 0));
+        self.shares.fill(list.len(), (0, 0));
         self.taken.fill(list.len(), false);
         note_bounds(kind, list, &mut self.bounds);
         let count = self.bounds.len() - 1;

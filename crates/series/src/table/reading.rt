@@ -1,4 +1,4 @@
-ghost use Rattle.std.specs.Prelude.{◌≡◌, ℕ, ◌+◌, ◌<◌, ◌≤◌, length, replicate, MatchBool, ◌==◌};
+ghost use Rattle.std.specs.Prelude.{◌≡◌, ℕ, ◌+◌, ◌<◌, ◌≤◌, T, ◌↔◌, length, replicate, MatchBool, ◌==◌};
 ghost use Rattle.parts.specs.Bounds.{Rising};
 ghost use Rattle.parts.specs.Running.{all_parts, first_row_of, has_present, is_chosen, part_at, sample_of, share_at};
 ghost use Rattle.parts.specs.Seats.{Seated};
@@ -77,12 +77,18 @@ impl PartTable {
         find_part(self.bounds.as_slice(), k)
     }
 
+    /// Whether the unit k lies in part j.
+    pub fn lies_in(&self, k: u32, j: usize) -> bool
+        ensures { T result ↔ Seated (tables self.now).bounds k j }
+    {
+        j < self.count() && self.first_row(j) <= k && k < self.first_row(j + 1)
+    }
+
     /// The prescribed share of the unit k in its part, and 0 of 0 past the last unit.
     pub fn prescribed(&self, k: usize) -> Fraction
         ensures { result ≡ share_at (tables self.now) k }
     {
-        let none = Fraction::new(0, 0);
-        self.shares.as_slice().get(k).copied().unwrap_or(none)
+        self.shares.as_slice().get(k).copied().unwrap_or((0, 0))
     }
 
     /// Whether part j is chosen; past the last part, none is.

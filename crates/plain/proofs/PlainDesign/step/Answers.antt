@@ -8,5 +8,5 @@ pub settle-requires-clause-kept : goal.settle-requires-clause-kept
 settle-requires-clause-kept g c =
     let s = c.args.self.now in
     let running : runs s.units ≡ true =
-    ways_run (runs s.units) (whole s.units) (held s.units) (g.M.Method.tree s.method s.units) c.ways-ways.result (c.ways-ways.ensures tt) c.if-ways-eq0.false in
+    ways_run (runs s.units) (whole s.units) (held s.units) (g.M.Method.tree s.method s.units) c.ways-ways.result c.ways-ways.ensures c.if-ways-eq0.false in
     holding_now (runs s.units) (g.met.M.Method.kept_once s.method s.units) s.holding running

@@ -6,7 +6,7 @@ use Rattle.reader.proofs.line.read_takes.Goals as goal
 use Rattle.reader.proofs.line.read_takes.Goals.{then-loop-fields-test+else-not-is_done, else-loop-fields-test}
 
 pub loop-fields-preserved : goal.loop-fields-preserved
-loop-fields-preserved c = one_more c.loop-fields.invariant (omega arith) c.in_ok-natural.ensures.taken c.push.ensures
+loop-fields-preserved c = one_more c.loop-fields.invariant (omega arith) c.in_ok-natural.ensures.taken (c.push.ensures.appended (omega arith))
 
 pub returns-clause-read : goal.returns-clause-read
 returns-clause-read c = IfOk-weaker c.end.result _ _ (λ _ none. all_taken c.args.text.now c.loop-fields.invariant none) c.end.ensures.done

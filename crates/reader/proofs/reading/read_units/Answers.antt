@@ -15,4 +15,4 @@ returns-in_err-read_unit-clause-refused c =
 
 pub loop-text-preserved : goal.loop-text-preserved
 loop-text-preserved c =
-    one_more c.loop-text.invariant (MatchOption-at_some _ _ c.in-Some.text c.in-Some.is c.in_ok-text.ensures.taken) (omega arith) c.in_ok-read_unit.ensures.read c.push.ensures
+    one_more c.loop-text.invariant (MatchOption-at_some _ _ c.in-Some.text c.in-Some.is c.in_ok-text.ensures.taken) (omega arith) c.in_ok-read_unit.ensures.read (c.push.ensures.appended (omega arith))

@@ -1,5 +1,5 @@
 use Rattle.std.proofs.Common.{◌≡◌, ◌++◌, ℕ, length, string_bytes}
-use Rattle.design.specs.declared.fraction.Fraction.{Fraction}
+use Rattle.design.specs.Fractions.{Fraction}
 use Rattle.plain_survey.specs.States.{PlainRun}
 use Rattle.design.specs.Plans.{outcome}
 use Rattle.sample_file.specs.Text.{unit_lines}

@@ -8,8 +8,7 @@ returns-in-Err-clause-drawn g c =
 
 pub loop-fault-smaller : goal.loop-fault-smaller
 loop-fault-smaller g c =
-    let m = (c.loop-fault.invariant.0 c.requires.state c.requires.means).means in
-    survey_takes_word g.D.Design g.S.Source c.loop-fault.survey c.draw.new.self c.draw.result c.in_default.field-0 _ c.in_default.is c.draw.ensures.answer c.draw.ensures.after m
+    survey_takes_word g.D.Design g.S.Source c.loop-fault.survey c.draw.new.self c.draw.result c.in_default.field-0 c.in_default.is c.draw.ensures.answer c.draw.ensures.after
 
 pub loop-fault-preserved : goal.loop-fault-preserved
 loop-fault-preserved g c =

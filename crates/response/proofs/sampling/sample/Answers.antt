@@ -2,7 +2,7 @@ use Rattle.std.proofs.Common.{◌≡◌, ◌∙◌, Err, Global, Vec, length, sy
 use Rattle.std.proofs.lemmas.List.{length-map}
 use Rattle.std.proofs.lemmas.Result.{err_from_is_err_and}
 use Rattle.design.specs.Faults.{numbered}
-use Rattle.design.specs.declared.fraction.Fraction.{Fraction}
+use Rattle.design.specs.Fractions.{Fraction}
 use Rattle.survey.specs.Means.{plans, words}
 use Rattle.plain_survey.specs.Calls.{first_run, share_now, start_after, start_refusal}
 use Rattle.plain_survey.specs.States.{PlainRun}

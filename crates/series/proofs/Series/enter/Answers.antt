@@ -26,7 +26,7 @@ returns-then-j-count g c =
           c.begin.result (g.D.Design.tree c.begin.new.self) (omega (arith, c.if-j-count.true, c.count.ensures, counted t))
           (subst (λ (list : List Row). Began (B list (sample_of v j)) c.begin.result (g.D.Design.tree c.begin.new.self)) c.part.ensures
           (subst (λ (n : ℕ). Began (B c.part.result.now n) c.begin.result (g.D.Design.tree c.begin.new.self)) c.sample.ensures c.begin.ensures.begun))
-          c.begin.ensures.settings (g.D.Design.intact c.begin.new.self) c.begin.ensures.intact;
+          c.begin.ensures.settings;
     }
 
 pub returns-else-j-count : goal.returns-else-j-count
@@ -43,5 +43,5 @@ returns-else-j-count g c =
       entered = λ h.
           entered_none (g.D.Design.plan s.below) (g.met.D.Design.sound s.below) v h.loaded
           t.taken_all t.chosen_all c.args.from j next h.none
-          {U = Unit {0}} tt (g.D.Design.intact s.below) (g.D.Design.tree s.below) (omega (arith, c.if-j-count.false, c.count.ensures, counted t));
+          {U = Unit {0}} tt (g.D.Design.tree s.below) (omega (arith, c.if-j-count.false, c.count.ensures, counted t));
     }

@@ -7,5 +7,5 @@ pub returns-then-is_chosen-clause-entered : goal.returns-then-is_chosen-clause-e
 returns-then-is_chosen-clause-entered g c h none =
     let s = c.args.self.now in
     let t = s.table in
-    enter_ready (g.D.Design.plan s.below) (g.met.D.Design.sound s.below) (tables_of s) (g.D.Design.intact s.below) (g.D.Design.tree s.below) h t.taken_all t.chosen_all none
+    enter_ready (g.D.Design.plan s.below) (g.met.D.Design.sound s.below) (tables_of s) (g.D.Design.tree s.below) h t.taken_all t.chosen_all none
     (sym c.is_chosen.ensures ∙ c.if-is_chosen.true)

@@ -27,7 +27,7 @@ returns g c =
       same = same_taken v (c.note_taken.new.flags) (tables_of x) c.enter.ensures.same;
       settings = c.enter.ensures.settings;
       passed = λ u over.
-          let n = passing B v (g.D.Design.intact s.below) (c.note_taken.new.flags) c.rows_of-rows.result.start c.rows_of-rows.result.end st u
+          let n = passing B v (c.note_taken.new.flags) c.rows_of-rows.result.start c.rows_of-rows.result.end st u
           (omega (arith, c.requires, t.chosen_all)) c.rows_of-rows.ensures.start c.rows_of-rows.ensures.end over c.note_taken.ensures.noted in
           moved_trans c.enter.result (IsUnderway g.D.Design x) (standing g.D.Design x) (run_from B v (v.stage + 1) (so_far (with_taken v (c.note_taken.new.flags)))) (standing g.D.Design s)
           (c.enter.ensures.entered (record { loaded = n.loaded; none = n.none })) n.stands;

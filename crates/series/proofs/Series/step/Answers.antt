@@ -3,7 +3,7 @@ use Rattle.design.specs.Design.{Stepped, ways_of}
 use Rattle.parts.specs.Running.{Underway, has_present, standing_of}
 use Rattle.parts.proofs.Tables.{gone_on}
 use Rattle.design.specs.Plans.{Plans}
-use Rattle.parts.proofs.Stepping.{ways_are, present_intact, stepped_down}
+use Rattle.parts.proofs.Stepping.{ways_are, stepped_down}
 use Rattle.series.specs.Of.{IsIntact, plans, standing, tables_of}
 use Rattle.series.proofs.Moves.{stepped_by, same_gone}
 use Rattle.series.proofs.Series.step.Given as given
@@ -17,16 +17,14 @@ both g c h =
     let v = tables_of s in
     let B = plans g.D.Design s in
     let C = g.D.Design.plan c.step.new.self in
-    let I = g.D.Design.intact s.below in
     let st = g.D.Design.tree s.below in
     let to = g.D.Design.tree c.step.new.self in
     let has : has_present v ≡ true = sym c.has_part.ensures ∙ c.if-not-has_part.false in
-    let i = present_intact I B v st h.underway has in
-    let gone = c.in_ok-step.ensures.stepped i in
-    let down = stepped_down I (g.D.Design.intact c.step.new.self) B v st to c.args.d h.underway has (c.step.ensures.intact i) gone.0 gone.1 in
-    let ways : ways_of (standing g.D.Design s) ≡ ways_of st = ways_are I B v st h ∙ ap (λ b. cond b (ways_of st) 0) has in
+    let gone = c.in_ok-step.ensures.stepped in
+    let down = stepped_down B v st to c.args.d h.underway has gone.0 gone.1 in
+    let ways : ways_of (standing g.D.Design s) ≡ ways_of st = ways_are B v st h ∙ ap (λ b. cond b (ways_of st) 0) has in
     stepped_by c.settle.result (IsIntact g.D.Design x) (standing g.D.Design x) (standing_of C (gone_on v) to) (standing g.D.Design s) c.args.d
-    (c.settle.ensures.settled (subst (λ (P : Plans). Underway (g.D.Design.intact c.step.new.self) P (gone_on v) to) (sym c.step.ensures.settings) down.0))
+    (c.settle.ensures.settled (subst (λ (P : Plans). Underway P (gone_on v) to) (sym c.step.ensures.settings) down.0))
     (ap (λ (P : Plans). standing_of P (gone_on v) to) c.step.ensures.settings ∙ down.1) (omega (arith, ways, gone.0))
 
 pub returns : goal.returns

@@ -25,4 +25,4 @@ returns-clause-tried g c =
     (subst (λ (list : List Row). Began (B list (sample_of (tables t) j)) c.begin.result st) c.part.ensures
     (subst (λ (n : ℕ). Began (B c.part.result.now n) c.begin.result st) c.sample.ensures c.begin.ensures.begun)) in
     tried_by ok.0 tt B (g.met.D.Design.sound s.below) (tables t) (rising t) j c.rows_of-rows.result.start c.rows_of-rows.result.end
-    c.note_shares.new.shares st place c.rows_of-rows.ensures.start c.rows_of-rows.ensures.end ok.1 (c.note_shares.ensures.noted c.begin.ensures.intact)
+    c.note_shares.new.shares st place c.rows_of-rows.ensures.start c.rows_of-rows.ensures.end ok.1 c.note_shares.ensures.noted

@@ -8,4 +8,4 @@ abbrev pub invariant-loop-j : goal.invariant-loop-j
 invariant-loop-j g l =
     (plans g.D.Design l.self ≡ plans g.D.Design l.initial.self)
     × (tables_of l.self ≡ with_shares (tables_of l.initial.self) (tables_of l.self).shares)
-    × TriedFrom (g.D.Design.intact l.self.below) (plans g.D.Design l.initial.self) (tables_of l.initial.self) (tables_of l.self).shares l.j (g.D.Design.tree l.self.below) l.answer
+    × TriedFrom (plans g.D.Design l.initial.self) (tables_of l.initial.self) (tables_of l.self).shares l.j (g.D.Design.tree l.self.below) l.answer

@@ -30,8 +30,8 @@ loop-k-preserved g c =
         omega (arith, w.taken-is, c.loop-k.invariant.0),
         λ u f a.
             let inv = c.loop-k.invariant.1 u f a in
-            let held : true ≡ u k = taken_is _ _ (length xs) u k true f
-            (λ i. subst (λ b. Taken (g.D.Design.tree c.args.design.now) k (Ok b)) w.if-branch.true (c.in_ok-taken.ensures i)) in (
+            let held : true ≡ u k = taken_is _ (length xs) u k true f
+            (subst (λ b. Taken (g.D.Design.tree c.args.design.now) k (Ok b)) w.if-branch.true c.in_ok-taken.ensures) in (
               count_more k u true c.loop-k.taken c.if-branch.taken held inv.0 w.taken-is,
               added_more k u weight (row_of_reading kind xs) (replicate g.T.Total.WIDTH (pos 0)) (g.T.Total.entries c.loop-k.total) (g.T.Total.entries c.if-branch.total) true held inv.1
                   (ap g.T.Total.entries w.total-is ∙ w.in_ok-add.ensures.raised ∙ ap (raised (weight k) (g.T.Total.entries c.loop-k.total)) (row_is kind xs k c.index-readings-k.result l c.index-readings-k.is)),
@@ -42,8 +42,8 @@ loop-k-preserved g c =
         omega (arith, w.taken-is, c.loop-k.invariant.0),
         λ u f a.
             let inv = c.loop-k.invariant.1 u f a in
-            let held : false ≡ u k = taken_is _ _ (length xs) u k false f
-            (λ i. subst (λ b. Taken (g.D.Design.tree c.args.design.now) k (Ok b)) w.if-branch.false (c.in_ok-taken.ensures i)) in (
+            let held : false ≡ u k = taken_is _ (length xs) u k false f
+            (subst (λ b. Taken (g.D.Design.tree c.args.design.now) k (Ok b)) w.if-branch.false c.in_ok-taken.ensures) in (
               count_more k u false c.loop-k.taken c.if-branch.taken held inv.0 (omega (arith, w.taken-is)),
               added_more k u weight (row_of_reading kind xs) (replicate g.T.Total.WIDTH (pos 0)) (g.T.Total.entries c.loop-k.total) (g.T.Total.entries c.if-branch.total) false held inv.1
                   (ap g.T.Total.entries w.total-is),

@@ -9,7 +9,7 @@ use Rattle.survey.proofs.adding.add_taken.Given as goal
 abbrev pub invariant-loop-k : goal.invariant-loop-k
 invariant-loop-k g l =
     (l.taken ≤ l.k)
-    × ((u : Sample) → Finished (g.D.Design.intact l.design) (g.D.Design.tree l.design) (length l.readings) u → Addable (kind_of g.T.Total) l.weights l.readings
+    × ((u : Sample) → Finished (g.D.Design.tree l.design) (length l.readings) u → Addable (kind_of g.T.Total) l.weights l.readings
     → (l.taken ≡ count l.k u)
     × (g.T.Total.entries l.total ≡ added l.k u (slice_index l.weights) (row_of_reading (kind_of g.T.Total) l.readings) (replicate g.T.Total.WIDTH (pos 0)))
     × (g.T.Total.additions l.total ≡ count l.k u))

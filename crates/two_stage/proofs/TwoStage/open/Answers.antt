@@ -37,12 +37,12 @@ returns-clause-answers g c =
     let sound = g.met.A.Design.sound s.first (map cluster_row ps) c.args.drawn in
     let units = units_begun (map cluster_row ps) a st sound begun.1 ∙ length-map ps cluster_row ∙ ap length (sym parts) in
     let last = subst (λ o. Answers {A = Unit {0}} o (λ _. Unit {0}) c.check_products.result) (products_are B w L a st begun.1 ps v.rows parts rows)
-    (c.check_products.ensures c.begin_first.ensures.intact units) in
+    (c.check_products.ensures units) in
     answers_last (first_refusal v.bounds a) (part_refusal B ps) (product_refusal a B ps (length v.rows)) (λ _. Unit {0}) _ c.check_products.result begun.0 tries.0 last
     (λ none u. record {
       underway = record {
-        underway = subst (λ (P : Plans). FirstUnderway (g.A.Design.intact c.begin_first.new.first) P w st) (sym c.try_parts.ensures.settings)
-            (first_underway B w L a st begun.1 ps v.rows parts rows (g.A.Design.intact c.begin_first.new.first) c.begin_first.ensures.intact sound none);
+        underway = subst (λ (P : Plans). FirstUnderway P w st) (sym c.try_parts.ensures.settings)
+            (first_underway B w L a st begun.1 ps v.rows parts rows sound none);
         at_first = tries.1.at_first;
       };
       run = ap (λ (P : Plans). in_first P w st) c.try_parts.ensures.settings ∙ first_run B w L a st begun.1 ps v.rows parts rows;

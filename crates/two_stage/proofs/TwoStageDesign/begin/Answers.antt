@@ -8,10 +8,11 @@ use Rattle.parts.specs.Parts.{bounds, same_cluster}
 use Rattle.design.specs.Plans.{Plans}
 use Rattle.parts.specs.Series.{part_refusal}
 use Rattle.layers.specs.TwoStage.{clusters, first_plan, clusters_refusal, first_refusal, product_refusal, stage_numerators, stages_run, two_stage_plan}
-use Rattle.layers.proofs.Standings.{refused_as, begun_moved}
+use Rattle.layers.proofs.Standings.{refused_as, begun}
 use Rattle.series.specs.Of.{plans, tables_of}
 use Rattle.two_stage.specs.declared.Stage.{Stage}
-use Rattle.two_stage.specs.Of.{number_set, stands, stands_in, IsIntact, drawing, CutInto, first_does, opening_refusal, Opened}
+use Rattle.two_stage.specs.Of.{number_set, stands, CutInto, first_does, opening_refusal, Opened}
+use Rattle.two_stage.specs.Stands.{stands_in, standing_at}
 use Rattle.two_stage.proofs.Begun.{opening_is, run_is}
 use Rattle.two_stage.proofs.TwoStageDesign.begin.Goals as goal
 
@@ -68,6 +69,14 @@ returns-in_err-open-clause-begun g c =
     (refused_as _ (or_else (clusters_refusal m list n) (rest A B m list n)) (stage_numerators a B (clusters m list)) (stages_run a B (clusters m list) (length list)) r p.0 e p.1 p.2
     (ap (λ (o : Option Refusal). or_else o (rest A B m list n)) cut.0 ∙ sym is ∙ opened))
 
+pub invariant_of-self-2 : goal.invariant_of-self-2
+invariant_of-self-2 g c =
+    let x = c.cut.new.self in
+    let y = c.open.new.self in
+    let a = first_does g.A.Design x c.in_ok-drawn.drawn in
+    let opened = accepted (opening_refusal a (plans g.B.Design x.second) (tables_of x.second)) (λ _. Opened g.A.Design g.B.Design a x y) c.in_ok-open.field-0 c.in_ok-open.ensures.answers in
+    record { together = ∣ (c.in_ok-self.ensures.settled opened.1.underway).0 ∣₁ }
+
 pub returns-clause-begun : goal.returns-clause-begun
 returns-clause-begun g c =
     let s = c.args.self.now in
@@ -78,7 +87,6 @@ returns-clause-begun g c =
     let B = g.B.Design.plan s.second.below in
     let x = c.cut.new.self in
     let y = c.open.new.self in
-    let z = c.settle.new.self in
     let q = c.in_ok-drawn.drawn in
     let a = first_plan A (clusters m list) m n in
     let cut = accepted (clusters_refusal m list n) (λ q. CutInto m q list n x) q c.in_ok-drawn.ensures.answers in
@@ -88,6 +96,6 @@ returns-clause-begun g c =
     let second = ap (λ d. g.B.Design.plan d) c.cut.ensures.same.second in
     let is = opening_is A B (g.A.Design.plan x.first) (plans g.B.Design x.second) m list n q (tables_of x.second) first second cut.1.clusters cut.1.drawn in
     let run = run_is A B (g.A.Design.plan x.first) (plans g.B.Design x.second) m list n q (tables_of x.second) first second cut.1.clusters cut.1.drawn in
-    (begun_moved _ (or_else (clusters_refusal m list n) (rest A B m list n)) (stage_numerators a B (clusters m list)) (stages_run a B (clusters m list) (length list)) c.settle.result
-    (IsIntact g.A.Design g.B.Design z) (stands g.A.Design g.B.Design z) (drawing g.A.Design g.B.Design y) (c.settle.ensures.settled opened.1.underway)
-    (ap (λ (o : Option Refusal). or_else o (rest A B m list n)) cut.0 ∙ sym is ∙ opened.0) (opened.1.run ∙ ap in_run run)).0
+    let now = standing_at g.A.Design g.B.Design c.in_ok-self.field-0 y.first c.settle.new.second in
+    begun _ (clusters_refusal m list n) (rest A B m list n) (stage_numerators a B (clusters m list)) (stages_run a B (clusters m list) (length list)) tt now
+    cut.0 (sym is ∙ opened.0) ((c.in_ok-self.ensures.settled opened.1.underway).1 ∙ opened.1.run ∙ ap in_run run)

@@ -2,9 +2,12 @@ use Rattle.std.proofs.Common.{refl, sym, ap, subst, ◌∙◌}
 use Rattle.plain_survey.specs.Calls.{start_refusal}
 use Rattle.plain_survey.specs.Asking.{started, taken, shared, reported}
 use Rattle.survey.specs.Means.{plans}
-use Rattle.survey.specs.Conducting.{Obeys, rules_of}
-use Rattle.plain_survey.specs.declared.call.Answer.TheVariants.{Started, Taken, Shared, Reported}
-use Rattle.survey.proofs.Asking.{if_unrefused, fair_start}
+use Rattle.survey.specs.Conducting.{Obeys}
+use Rattle.plain_survey.specs.declared.call.Answer.TheVariants.{Started, Taken, Shared, Reported, Stopped}
+use Rattle.plain_survey.specs.Requests.{IsFor}
+use Rattle.survey.proofs.Asking.{if_unrefused, fair_start, same_report}
+use Rattle.survey.proofs.Estimating.{asked_estimates}
+use Rattle.survey.proofs.Drawing.{all_exact}
 use Rattle.survey.proofs.survey.Survey.ask.Goals as goal
 
 pub returns-in-Start : goal.returns-in-Start
@@ -13,7 +16,7 @@ returns-in-Start g c =
     let list = c.in-Start.list.now in
     let n = c.in-Start.n in
     let p = plans g.D.Design s list n in
-    subst (λ call. Obeys g.D.Design g.S.Source g.T.Total call (Started c.start.result) s c.args.total.now c.start.new.self c.args.total.now) (sym c.in-Start.is)
+    subst (λ call. Obeys g.D.Design g.S.Source g.L.Ledger call (Started c.start.result) s c.args.ledger.now c.start.new.self c.args.ledger.now) (sym c.in-Start.is)
     (record {
       settings = c.start.ensures.settings;
       does = λ st m. record {
@@ -22,8 +25,9 @@ returns-in-Start g c =
         leaves = refl;
         laws = record {
           exact = c.start.ensures.after.exact;
-          fair = λ none. fair_start (rules_of g.D.Design g.T.Total s) g.T.Total.REACH g.met.T.Total.rows list n
+          fair = λ none. fair_start (plans g.D.Design s) list n
               (if_unrefused (start_refusal p list) tt c.start.result _ c.start.ensures.answer c.start.ensures.fair none);
+          estimates = tt;
         };
       };
     })
@@ -31,7 +35,7 @@ returns-in-Start g c =
 pub returns-in-Taken : goal.returns-in-Taken
 returns-in-Taken g c =
     let s = c.args.self.now in
-    subst (λ call. Obeys g.D.Design g.S.Source g.T.Total call (Taken c.taken.result) s c.args.total.now s c.args.total.now) (sym c.in-Taken.is)
+    subst (λ call. Obeys g.D.Design g.S.Source g.L.Ledger call (Taken c.taken.result) s c.args.ledger.now s c.args.ledger.now) (sym c.in-Taken.is)
     (record {
       settings = refl;
       does = λ st m. record {
@@ -41,6 +45,7 @@ returns-in-Taken g c =
         laws = record {
           exact = c.taken.ensures.exact st m;
           fair = tt;
+          estimates = tt;
         };
       };
     })
@@ -48,7 +53,7 @@ returns-in-Taken g c =
 pub returns-in-Share : goal.returns-in-Share
 returns-in-Share g c =
     let s = c.args.self.now in
-    subst (λ call. Obeys g.D.Design g.S.Source g.T.Total call (Shared c.share.result) s c.args.total.now s c.args.total.now) (sym c.in-Share.is)
+    subst (λ call. Obeys g.D.Design g.S.Source g.L.Ledger call (Shared c.share.result) s c.args.ledger.now s c.args.ledger.now) (sym c.in-Share.is)
     (record {
       settings = refl;
       does = λ st m. record {
@@ -58,6 +63,7 @@ returns-in-Share g c =
         laws = record {
           exact = c.share.ensures.exact st m;
           fair = tt;
+          estimates = tt;
         };
       };
     })
@@ -65,16 +71,39 @@ returns-in-Share g c =
 pub returns-in-Report : goal.returns-in-Report
 returns-in-Report g c =
     let s = c.args.self.now in
-    subst (λ call. Obeys g.D.Design g.S.Source g.T.Total call (Reported c.report.result) s c.args.total.now s c.report.new.total) (sym c.in-Report.is)
+    subst (λ call. Obeys g.D.Design g.S.Source g.L.Ledger call (Reported c.report_by.result) s c.args.ledger.now s c.report_by.new.self) (sym c.in-Report.is)
     (record {
       settings = refl;
       does = λ st m. record {
-        answers = ap reported (c.report.ensures.answer st m);
+        answers = ap reported (c.report_by.ensures.answer st m);
         means = m;
-        leaves = c.report.ensures.total st m;
+        leaves = c.report_by.ensures.totals st m;
         laws = record {
-          exact = c.report.ensures.exact st m;
+          exact = all_exact g.D.Design g.S.Source s g.met.D.Design.exact st m;
           fair = tt;
+          estimates = λ scale taken e.
+              asked_estimates (g.L.Ledger.requested c.in-Report.request) (plans g.D.Design s) (g.D.Design.tree s.design) s.weights s.running st.run (g.L.Ledger.tallies c.args.ledger.now) scale taken
+              (g.met.D.Design.sound s.design) m.run
+              (subst (λ k. IsFor k (g.L.Ledger.requested c.in-Report.request)) (sym (g.met.L.Ledger.counted c.args.ledger.now)) (g.met.L.Ledger.fits c.in-Report.request))
+              (same_report _ _ e);
+        };
+      };
+    })
+
+pub returns-in-Stop : goal.returns-in-Stop
+returns-in-Stop g c =
+    let s = c.args.self.now in
+    subst (λ call. Obeys g.D.Design g.S.Source g.L.Ledger call Stopped s c.args.ledger.now c.stop.new.self c.args.ledger.now) (sym c.in-Stop.is)
+    (record {
+      settings = c.stop.ensures.settings;
+      does = λ st m. record {
+        answers = refl;
+        means = record { waiting = c.stop.ensures.after.means.waiting ∙ m.waiting; run = c.stop.ensures.after.means.run };
+        leaves = refl;
+        laws = record {
+          exact = tt;
+          fair = tt;
+          estimates = tt;
         };
       };
     })

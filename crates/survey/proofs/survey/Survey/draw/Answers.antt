@@ -1,11 +1,13 @@
-use Rattle.std.proofs.Common.{◌≡◌, Ok, Err, sym, ap, subst, ◌∙◌}
+use Rattle.std.proofs.Common.{◌≡◌, Err, sym, ap, subst, ◌∙◌}
+use mathlib.Core.Logic.{∥∥₁_map}
 use Rattle.design.specs.Faults.{numbered}
 use Rattle.throws.specs.Words.{thrown, left}
-use Rattle.throws.proofs.Throwing.{thrown_below}
 use Rattle.plain_survey.specs.States.{ways_now}
 use Rattle.plain_survey.specs.Calls.{throw_now, draw_after}
-use Rattle.survey.specs.Means.{RunMeans, ComesTo, plans, words}
-use Rattle.survey.proofs.Drawing.{few_ways, run_exact, no_throw, refused_throw, led}
+use Rattle.survey.specs.Runs.{RunMeans}
+use Rattle.survey.specs.Means.{ComesTo, plans, words}
+use Rattle.survey.proofs.Drawing.{few_ways, run_exact, no_throw, refused_throw, next_run}
+use Rattle.survey.proofs.SomeState.{all_mean_some}
 use Rattle.survey.proofs.survey.Survey.draw.Goals as goal
 
 pub returns-then-ways-eq0-clause-after : goal.returns-then-ways-eq0-clause-after
@@ -15,7 +17,7 @@ returns-then-ways-eq0-clause-after g c st m =
     subst (ComesTo g.D.Design g.S.Source s s) (sym (no_throw (ways_now st.run) st none))
     (record {
       means = m;
-      exact = run_exact (plans g.D.Design s) (g.D.Design.intact s.design) (g.D.Design.tree s.design) s.weights s.running st.run m.run (g.met.D.Design.exact s.design);
+      exact = run_exact (plans g.D.Design s) (g.D.Design.tree s.design) s.weights s.running st.run m.run (g.met.D.Design.exact s.design);
     })
 
 pub returns-in_err-d-clause-after : goal.returns-in_err-d-clause-after
@@ -25,10 +27,10 @@ returns-in_err-d-clause-after g c st m =
     let dry : throw_now st ≡ Err (numbered c.in_err-d.field-0.0) =
     sym (c.in_err-d.ensures.answer ∙ ap (λ k. thrown k (words g.S.Source s)) ways ∙ ap (λ ws. thrown (ways_now st.run) ws) m.waiting) in
     let stays = refused_throw (throw_now st) (numbered c.in_err-d.field-0.0) st.run dry in
-    let means = subst (RunMeans (plans g.D.Design s) (g.D.Design.intact s.design) (g.D.Design.tree s.design) s.weights s.running) (sym stays) m.run in
+    let means = subst (RunMeans (plans g.D.Design s) (g.D.Design.tree s.design) s.weights s.running) (sym stays) m.run in
     record {
       means = record { waiting = c.throw.ensures.words ∙ ap (λ k. left k (words g.S.Source s)) ways ∙ ap (λ ws. left (ways_now st.run) ws) m.waiting; run = means };
-      exact = run_exact (plans g.D.Design s) (g.D.Design.intact s.design) (g.D.Design.tree s.design) s.weights s.running (draw_after st).run means (g.met.D.Design.exact s.design);
+      exact = run_exact (plans g.D.Design s) (g.D.Design.tree s.design) s.weights s.running (draw_after st).run means (g.met.D.Design.exact s.design);
     }
 
 pub returns-clause-after : goal.returns-clause-after
@@ -36,13 +38,22 @@ returns-clause-after g c st m =
     let s = c.args.self.now in
     let new = c.step.new.self in
     let ways = c.ways-ways.ensures st m in
-    let leads : throw_now st ≡ Ok c.in_ok-d.d =
-    sym (c.in_ok-d.ensures.answer ∙ ap (λ k. thrown k (words g.S.Source s)) ways ∙ ap (λ ws. thrown (ways_now st.run) ws) m.waiting) in
-    let means = led (plans g.D.Design s) (g.D.Design.intact s.design) (g.D.Design.intact new) (g.D.Design.tree s.design) (g.D.Design.tree new) s.weights s.running st.run (throw_now st) c.in_ok-d.d c.step.result
-    leads (thrown_below (ways_now st.run) st.words c.in_ok-d.d leads) m.run c.step.ensures.intact c.step.ensures.stepped in
+    let means = next_run g.D.Design g.S.Source s (g.D.Design.tree new) c.ways-ways.result c.in_ok-d.d c.step.result c.ways-ways.ensures c.in_ok-d.ensures.answer c.step.ensures.stepped st m in
     record {
-      means = record { waiting = c.throw.ensures.words ∙ ap (λ k. left k (words g.S.Source s)) ways ∙ ap (λ ws. left (ways_now st.run) ws) m.waiting; run = subst (λ P. RunMeans P (g.D.Design.intact new) (g.D.Design.tree new) s.weights s.running (draw_after st).run) (sym c.step.ensures.settings) means };
-      exact = run_exact (plans g.D.Design s) (g.D.Design.intact new) (g.D.Design.tree new) s.weights s.running (draw_after st).run means (g.met.D.Design.exact new);
+      means = record { waiting = c.throw.ensures.words ∙ ap (λ k. left k (words g.S.Source s)) ways ∙ ap (λ ws. left (ways_now st.run) ws) m.waiting; run = subst (λ P. RunMeans P (g.D.Design.tree new) s.weights s.running (draw_after st).run) (sym c.step.ensures.settings) means };
+      exact = run_exact (plans g.D.Design s) (g.D.Design.tree new) s.weights s.running (draw_after st).run means (g.met.D.Design.exact new);
+    }
+
+pub invariant_of-self-2 : goal.invariant_of-self-2
+invariant_of-self-2 g c =
+    let s = c.args.self.now in
+    let new = c.step.new.self in
+    record {
+      meant = ∥∥₁_map (all_mean_some g.D.Design g.S.Source s) (λ k. record {
+        run = (draw_after k.0).run;
+        means = subst (λ P. RunMeans P (g.D.Design.tree new) s.weights s.running (draw_after k.0).run) (sym c.step.ensures.settings)
+            (next_run g.D.Design g.S.Source s (g.D.Design.tree new) c.ways-ways.result c.in_ok-d.d c.step.result c.ways-ways.ensures c.in_ok-d.ensures.answer c.step.ensures.stepped k.0 k.1);
+      });
     }
 
 pub returns-then-ways-eq0-clause-few_ways : goal.returns-then-ways-eq0-clause-few_ways

@@ -6,7 +6,7 @@ use Rattle.survey.proofs.survey.Survey.taken.Goals as goal
 pub returns-clause-answer : goal.returns-clause-answer
 returns-clause-answer g c st m =
     let s = c.args.self.now in
-    taken_when (plans g.D.Design s) (g.D.Design.intact s.design) (g.D.Design.tree s.design) s.weights s.running st.run c.args.k c.taken.result c.if-not-self.false m.run c.taken.ensures
+    taken_when (plans g.D.Design s) (g.D.Design.tree s.design) s.weights s.running st.run c.args.k c.taken.result c.if-not-self.false m.run c.taken.ensures
 
 pub returns-then-not-self-clause-exact : goal.returns-then-not-self-clause-exact
 returns-then-not-self-clause-exact g c = all_exact g.D.Design g.S.Source c.args.self.now g.met.D.Design.exact

@@ -1,4 +1,5 @@
 use Rattle.std.proofs.Common.{◌+◌, ◌-◌, ◌<◌, List, ◌∷◌, [], ◌++◌, length, sym, ap, ◌∙◌, ap₂, arith}
+use Rattle.std.proofs.lemmas.Grind.{common_steps}
 use Rattle.design.specs.Lists.{total}
 use Rattle.design.specs.declared.row.Row.{Row}
 use Rattle.parts.specs.Running.{first_row_of}
@@ -34,6 +35,6 @@ loop-j-preserved c =
     let t = c.args.table.now in
     let j = c.loop-j.j in
     let place : j + 1 < length (tables t).bounds = omega (arith, c.loop-j-test.true, c.count-j-end.ensures, counted t, t.chosen_all) in
-    c.push.ensures
+    c.push.ensures.appended (grind (arith, common_steps))
     ∙ ap₂ (λ (xs : List Row) (r : Row). xs ++ r ∷ []) c.loop-j.invariant (c.row_of.ensures ∙ ap row_for c.part.ensures)
     ∙ sym (heads_more (tables t) (rising t) j place)
