@@ -95,7 +95,7 @@ held_begun list n all items p = prepared_fine list n all items p (λ x xs. Held 
 pub ways_end : (all : ℕ) (holds : List ℕ) (called : ℕ) (pend : Option ℕ) → length holds ≤ called → ways (pivotal_tree all holds called pend) ≡ 0
 ways_end all holds called pend l = ap ways (tree_done all holds called pend l)
 
-duelling : (all : ℕ) (holds : List ℕ) (called i : ℕ) (pend : Option ℕ) → Intact all holds called pend → called < length holds → pend ≡ Some i → Duel all holds i called
+pub duelling : (all : ℕ) (holds : List ℕ) (called i : ℕ) (pend : Option ℕ) → Intact all holds called pend → called < length holds → pend ≡ Some i → Duel all holds i called
 duelling all holds called i pend w l e = duel_of all holds i called (subst (λ p. Held all holds called p) e w.0) l (w.1 l).1
 
 pub ways_at : (all : ℕ) (holds : List ℕ) (called : ℕ) (pend : Option ℕ) (i a b m : ℕ) → Intact all holds called pend → Due holds called pend i a b → m ≡ duel_ways all a b

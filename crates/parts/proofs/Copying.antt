@@ -22,7 +22,7 @@ same true false p q = absurd (p tt)
 same false true p q = absurd (q tt)
 same false false p q = refl
 
-flag_is : (st : Standing) (k n : ℕ) (b : Bool) → Taken st k (Ok b) → Over st n → k < n → b ≡ outcome_of st k
+pub flag_is : (st : Standing) (k n : ℕ) (b : Bool) → Taken st k (Ok b) → Over st n → k < n → b ≡ outcome_of st k
 flag_is no_run k n b t o l = absurd o
 flag_is (in_run r) k n b t o l = by r.tree o.1 o.2 t.1.0 t.1.1
   where
@@ -35,7 +35,7 @@ flag_found st k n (Ok b) d t o l = flag_is st k n b t o l
 flag_found no_run k n (Err e) d t o l = absurd o
 flag_found (in_run r) k n (Err e) d t o l = absurd (omega (arith, t.0, o.0))
 
-share_is : (a : Plan) (st : Standing) (k n : ℕ) (s : Fraction) → Shared st k (Ok s) → Fresh a st n → k < n → s ≡ share_of a k
+pub share_is : (a : Plan) (st : Standing) (k n : ℕ) (s : Fraction) → Shared st k (Ok s) → Fresh a st n → k < n → s ≡ share_of a k
 share_is (refuses f) st k n s h w l = absurd w
 share_is (accepts num run) st k n s h w l =
     let g : Shared (in_run run) k (Ok s) = subst (λ (x : Standing). Shared x k (Ok s)) w.0 h in

@@ -8,7 +8,7 @@ use Rattle.parts.specs.Parts.{starts, bounds}
 use Rattle.parts.specs.Orders.{falls_at}
 
 -- the row i, compared with the row before it
-falls_next : (lower : Row → Row → Bool) (list : List Row) (i : ℕ) → 1 ≤ i → falls_at lower list i ≡ lower (row_at list (i - 1)) (row_at list i)
+pub falls_next : (lower : Row → Row → Bool) (list : List Row) (i : ℕ) → 1 ≤ i → falls_at lower list i ≡ lower (row_at list (i - 1)) (row_at list i)
 falls_next lower list zero l = absurd (omega arith)
 falls_next lower list (suc i) l = ap (λ k. lower (row_at list k) (row_at list (suc i))) (back i)
   where
@@ -41,7 +41,7 @@ module _ (alike : Row → Row → Bool) (list : List Row) where
       at_drop_more (λ (ys : List Row). starts alike i q ys) list i (record { stratum = 0; cluster = 0; size = 0 }) l
       ∙ ap (λ n. cond (alike q (row_at list i)) (starts alike n (row_at list i) (drop (i + 1) list)) (i ∷ starts alike n (row_at list i) (drop (i + 1) list))) (sym (add-one i))
 
-  bounds_first : 0 < length list → 0 ∷ starts alike 1 (row_at list 0) (drop 1 list) ≡ bounds alike list
+  pub bounds_first : 0 < length list → 0 ∷ starts alike 1 (row_at list 0) (drop 1 list) ≡ bounds alike list
   unfolding starts bounds
   bounds_first l = by list l
     where
@@ -50,7 +50,7 @@ module _ (alike : Row → Row → Bool) (list : List Row) where
       by (r ∷ rs) l = refl
 
   -- the bounds up to the row i are noted, and row i is joined to the row before it or not
-  starts_step : (i : ℕ) (b : Bool) (noted goal : List ℕ) → i < length list → b ≡ alike (row_at list (i - 1)) (row_at list i)
+  pub starts_step : (i : ℕ) (b : Bool) (noted goal : List ℕ) → i < length list → b ≡ alike (row_at list (i - 1)) (row_at list i)
       → noted ++ starts alike i (row_at list (i - 1)) (drop i list) ≡ goal
       → cond b noted (noted ++ i ∷ []) ++ starts alike (i + 1) (row_at list (i + 1 - 1)) (drop (i + 1) list) ≡ goal
   starts_step i b noted goal l is inv =
@@ -67,7 +67,7 @@ module _ (alike : Row → Row → Bool) (list : List Row) where
       by true S = refl
       by false S = append_assoc noted (i ∷ []) S
 
-  starts_end : (i : ℕ) (q : Row) → length list ≤ i → i ∷ [] ≡ starts alike i q (drop i list)
+  pub starts_end : (i : ℕ) (q : Row) → length list ≤ i → i ∷ [] ≡ starts alike i q (drop i list)
   unfolding starts
   starts_end i q l = sym (at_drop_all (λ (ys : List Row). starts alike i q ys) list i l)
 

@@ -33,9 +33,8 @@ fn next_short(units: &Holdings, from: usize) -> usize
     ensures { NextShort units.now from result }
 {
     let end = units.units();
-    (from..end)
-        .find(|k| units.get(*k) != units.total())
-        .unwrap_or(end)
+    let total = units.total();
+    (from..end).find(|k| units.get(*k) != total).unwrap_or(end)
 }
 
 impl Duels {
@@ -103,11 +102,14 @@ impl Method for Duels {
         // A throw below the ways has its duel.
         let duel = self.duel(units).unwrap();
         let left = duel.left(d);
+        let called = self.called;
         units.set(duel.pending, left.pending);
-        units.set(self.called, left.called);
-        self.pending = duel.keeper(self.called, left);
-        self.called += 1;
-        *self = self.call(units);
+        units.set(called, left.called);
+        let next = Duels {
+            called: called + 1,
+            pending: duel.keeper(called, left),
+        };
+        *self = next.call(units);
     }
 }
 

@@ -66,6 +66,8 @@ impl<M: Method> Design for Plain<M> {
         }
     }
 
+    // Each throw calls it, and a call would cost a part of the throw that is felt.
+    #[inline]
     fn step(&mut self, d: u32) -> Result<(), Fault> {
         let ways = self.ways();
         if ways == 0 {

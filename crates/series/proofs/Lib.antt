@@ -1,3 +1,4 @@
 pub mod Tabled
 pub mod Tries
 pub mod Moves
+pub mod Finding

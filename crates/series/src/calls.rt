@@ -69,6 +69,19 @@ impl<D: Design> Series<D> {
         (numerator, denominator)
     }
 
+    // The share of the unit k, which is known to lie in part j.
+    fn share_seated(&self, k: u32, j: usize) -> Result<Fraction, Fault>
+        requires listed { k < length (tables_of self.now).rows }
+        requires seated { Seated (tables_of self.now).bounds k j }
+        ensures { IsIntact D.Design self.now → Shared (standing D.Design self.now) k result }
+    {
+        if j == self.table.stage && self.table.moved {
+            self.below.share(k - self.table.first_row(j))
+        } else {
+            Ok(self.share_noted(k as usize, j))
+        }
+    }
+
     /// The inclusion share of the unit k in the present tree, where it lies in part j; anywhere else, part j has no such unit.
     pub fn share_in(&self, k: u32, j: usize) -> Result<(u64, u64), Fault>
         ensures seated { IsIntact D.Design self.now → Seated (tables_of self.now).bounds k j → Shared (standing D.Design self.now) k result }
@@ -77,17 +90,17 @@ impl<D: Design> Series<D> {
         if !self.table.lies_in(k, j) {
             return Err(Fault::of(Reason::NoSuchUnit));
         }
-        if j == self.table.stage && self.table.moved {
-            self.below.share(k - self.table.first_row(j))
-        } else {
-            Ok(self.share_noted(k as usize, j))
-        }
+        self.share_seated(k, j)
     }
 
     /// The inclusion share of the unit k in the present tree.
     pub fn share(&self, k: u32) -> Result<(u64, u64), Fault>
         ensures { IsIntact D.Design self.now → Shared (standing D.Design self.now) k result }
     {
-        self.share_in(k, self.table.part_of(k))
+        // A unit of the list lies in its part, which is not tested again.
+        if k as usize >= self.table.units() {
+            return Err(Fault::of(Reason::NoSuchUnit));
+        }
+        self.share_seated(k, self.table.part_of(k))
     }
 }

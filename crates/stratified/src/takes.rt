@@ -11,6 +11,8 @@ use std::alloc::{AllocError, Global};
 #[derive(Drop)]
 pub struct Takes {
     items: BoundedVec<u32, MOST_TAKES>,
+    // Repeated here, as who holds a BoundedVec sees its items only, and not its invariant.
+    ghost few: { length items ≤ 64 },
 }
 
 // Refuses a table with no takes or too many, and one with a take of 0.

@@ -26,7 +26,7 @@ share_le : (k num den : ℕ) (t : Tree Sample) → HasWays t → Share k num den
 share_le k num den t h s = cancel num den (weight t) (inclusion k t) (positive t h) (omega (arith, event_and_not (λ u. u k) t)) s
 
 -- its numbers fit 64 bits
-small : (st : Standing) → SoundStanding st → (k : ℕ) (x : Fraction) → Shared st k (Ok x) → (x.0 ≤ x.1) × (x.1 ≤ 10 ^ 15)
+pub small : (st : Standing) → SoundStanding st → (k : ℕ) (x : Fraction) → Shared st k (Ok x) → (x.0 ≤ x.1) × (x.1 ≤ 10 ^ 15)
 small no_run s k x h = absurd h
 small (in_run r) s k x h =
     let den = h.1.0 in (

@@ -7,11 +7,31 @@ ghost use Rattle.plain.specs.Of.{runs, whole, held, HoldsGoals};
 
 use super::Holdings;
 use bounded::BoundedVec;
-use design::check::check_list;
+use design::check::{check_list, refuse_at};
 use design::fault::{Fault, Reason};
 use design::limits::MOST_ROWS;
 use design::row::Row;
 use std::alloc::{AllocError, Global};
+
+// Refuses the first row whose goal is above the total.
+fn check_goals(list: &[Row], n: u32, total: u32) -> Result<(), Fault>
+    requires few { length list.now ≤ 1024 }
+    requires total { total ≡ total_of list.now }
+    ensures { Answers (goal_refusal list.now n) (λ _. Unit {0}) result }
+{
+    let above = |row: &Row| u64::from(n) * u64::from(row.size) > u64::from(total);
+    refuse_at(list.iter().position(above), Reason::ShareAboveOne)
+}
+
+// Makes the list so long. What it holds is left to the caller, who writes all of it.
+fn make_room(goals: &mut BoundedVec<u32, MOST_ROWS>, count: usize)
+    requires { count ≤ 1024 }
+    ensures { length goals.new ≡ count }
+{
+    if goals.len() != count {
+        goals.fill(count, 0);
+    }
+}
 
 // Notes the goal of each unit, or refuses the first row whose goal is above the total.
 fn note_goals(
@@ -25,14 +45,10 @@ fn note_goals(
     ensures answers { Answers (goal_refusal list.now n) (λ _. goals.new ≡ goals_of list.now n) result }
     ensures few { length goals.new ≤ 1024 }
 {
-    goals.clear();
-    for (i, row) in list.iter().enumerate() {
-        let goal = u64::from(n) * u64::from(row.size);
-        if goal > u64::from(total) {
-            return Err(Fault::at(Reason::ShareAboveOne, i as u32));
-        }
-        goals.push(goal as u32);
-    }
+    make_room(goals, list.len());
+    check_goals(list, n, total)?;
+    // None is above the total, so that each fits 32 bits. In one go, with no test of the room for each.
+    goals.write(0..list.len(), |k| n * list[k].size);
     Ok(())
 }
 

@@ -9,13 +9,38 @@ use design::fraction::Fraction;
 use design::row::Row;
 use std::ops::Range;
 
-// The part in which the row k lies, where `bounds` are the first rows of the parts, and at last the row past the list.
-fn find_part(bounds: &[u32], k: u32) -> usize
+// Up to so many bounds are gone through in order, which is then faster than to halve them.
+const FEW_BOUNDS: usize = 17;
+
+// The part in which the row k lies, where `bounds` are the first rows of the parts, and at last the row past the list: the first part
+// that ends past the row.
+fn find_in_order(bounds: &[u32], k: u32) -> usize
+    ensures { (e : ℕ) → Rising bounds.now e → k < e → Seated bounds.now k result }
+{
+    let Some((_, ends)) = bounds.split_first() else {
+        return 0;
+    };
+    ends.iter().position(|end| k < *end).unwrap_or(0)
+}
+
+// The same part, found by halving.
+fn find_by_halves(bounds: &[u32], k: u32) -> usize
     ensures { (e : ℕ) → Rising bounds.now e → k < e → Seated bounds.now k result }
 {
     bounds
         .partition_point(|first| *first <= k)
         .saturating_sub(1)
+}
+
+// The same part, found as is faster for so many bounds.
+fn find_part(bounds: &[u32], k: u32) -> usize
+    ensures { (e : ℕ) → Rising bounds.now e → k < e → Seated bounds.now k result }
+{
+    if bounds.len() <= FEW_BOUNDS {
+        find_in_order(bounds, k)
+    } else {
+        find_by_halves(bounds, k)
+    }
 }
 
 // Past the end these read 0 (or false), as the definitions do, so that no clause needs a premise.

@@ -14,9 +14,9 @@ call-requires c =
     let due = subst (λ o. DueDuel u m o) c.unwrap-duel.ensures c.duel.ensures in
     let x = c.left-left.result.pending in
     let y = c.left-left.result.called in
-    let keep = c.keeper-self.result in
+    let keep = c.keeper.result in
     let f = fought (whole u) duel.total (held u) m.called duel.pending duel.a duel.b c.args.d x y keep (held c.set.new.self) (held after)
-    due.1 c.left-left.ensures.pending c.left-left.ensures.called c.keeper-self.ensures c.set.ensures.held c.set-2.ensures.held in
+    due.1 c.left-left.ensures.pending c.left-left.ensures.called c.keeper.ensures c.set.ensures.held c.set-2.ensures.held in
     subst (λ t. Held t (held after) (m.called + 1) keep) (sym (c.set-2.ensures.whole ∙ c.set.ensures.whole))
     (held_fought (whole u) (held u) m.called m.pending duel.pending duel.a duel.b c.args.d x y keep (held after) c.requires.kept due.0 f)
 
@@ -29,9 +29,9 @@ returns-clause-tree c =
     let due = subst (λ o. DueDuel u m o) c.unwrap-duel.ensures c.duel.ensures in
     let x = c.left-left.result.pending in
     let y = c.left-left.result.called in
-    let keep = c.keeper-self.result in
+    let keep = c.keeper.result in
     let f = fought (whole u) duel.total (held u) m.called duel.pending duel.a duel.b c.args.d x y keep (held c.set.new.self) (held after)
-    due.1 c.left-left.ensures.pending c.left-left.ensures.called c.keeper-self.ensures c.set.ensures.held c.set-2.ensures.held in
+    due.1 c.left-left.ensures.pending c.left-left.ensures.called c.keeper.ensures c.set.ensures.held c.set-2.ensures.held in
     let all = c.set-2.ensures.whole ∙ c.set.ensures.whole in
     let next = c.call.result in
     step_at (whole u) (held u) m.called m.pending duel.pending duel.a duel.b c.args.d x y keep (held after) c.requires.kept due.0 f

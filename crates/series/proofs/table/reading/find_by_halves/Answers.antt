@@ -2,7 +2,7 @@ use Rattle.std.proofs.Common.{leb, rules, arith}
 use Rattle.std.proofs.lemmas.Bool.{leb-true, leb-false}
 use Rattle.std.proofs.lemmas.List.Sorted.{IsPartitionPoint-from_clause}
 use Rattle.parts.proofs.Seats.{seat_found, bounds_parted}
-use Rattle.series.proofs.table.reading.find_part.Goals as goal
+use Rattle.series.proofs.table.reading.find_by_halves.Goals as goal
 
 pub returns : goal.returns
 returns c e rise l =
