@@ -51,17 +51,18 @@ impl<D: Design> Series<D> {
     // The share of the unit k of part j, where the design is not in the midst of that part: all or nothing behind, and else what is prescribed
     // if the part is chosen.
     fn share_noted(&self, k: usize, j: usize) -> Fraction
-        requires { k < length (tables_of self.now).rows }
+        requires listed { k < length (tables_of self.now).rows }
+        requires part { j < length (tables_of self.now).chosen }
         ensures { result ≡ noted_share (tables_of self.now) k j }
     {
-        let (prescribed, denominator) = self.table.prescribed(k);
+        let (prescribed, denominator) = self.table.shares.as_slice()[k];
         let numerator = if j < self.table.stage {
             if self.table.taken.as_slice()[k] {
                 denominator
             } else {
                 0
             }
-        } else if self.table.is_chosen(j) {
+        } else if self.table.chosen.as_slice()[j] {
             prescribed
         } else {
             0
@@ -76,7 +77,7 @@ impl<D: Design> Series<D> {
         ensures { IsIntact D.Design self.now → Shared (standing D.Design self.now) k result }
     {
         if j == self.table.stage && self.table.moved {
-            self.below.share(k - self.table.first_row(j))
+            self.below.share(k - self.table.bounds.as_slice()[j])
         } else {
             Ok(self.share_noted(k as usize, j))
         }
@@ -94,6 +95,8 @@ impl<D: Design> Series<D> {
     }
 
     /// The inclusion share of the unit k in the present tree.
+    // Inlined, as an answer that comes back through memory would cost half as much again.
+    #[inline(always)]
     pub fn share(&self, k: u32) -> Result<(u64, u64), Fault>
         ensures { IsIntact D.Design self.now → Shared (standing D.Design self.now) k result }
     {

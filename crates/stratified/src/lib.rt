@@ -128,6 +128,8 @@ impl<D: Design> Design for Stratified<D> {
         self.strata.step(d)
     }
 
+    // Inlined, as the share of a series is.
+    #[inline(always)]
     fn share(&self, k: u32) -> Result<(u64, u64), Fault> {
         if !self.running {
             return Err(Fault::of(Reason::NoSuchUnit));

@@ -24,7 +24,7 @@ fn check_goals(list: &[Row], n: u32, total: u32) -> Result<(), Fault>
 }
 
 // Makes the list so long. What it holds is left to the caller, who writes all of it.
-fn make_room(goals: &mut BoundedVec<u32, MOST_ROWS>, count: usize)
+fn set_length(goals: &mut BoundedVec<u32, MOST_ROWS>, count: usize)
     requires { count ≤ 1024 }
     ensures { length goals.new ≡ count }
 {
@@ -45,7 +45,7 @@ fn note_goals(
     ensures answers { Answers (goal_refusal list.now n) (λ _. goals.new ≡ goals_of list.now n) result }
     ensures few { length goals.new ≤ 1024 }
 {
-    make_room(goals, list.len());
+    set_length(goals, list.len());
     check_goals(list, n, total)?;
     // None is above the total, so that each fits 32 bits. In one go, with no test of the room for each.
     goals.write(0..list.len(), |k| n * list[k].size);

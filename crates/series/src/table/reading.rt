@@ -12,15 +12,18 @@ use std::ops::Range;
 // Up to so many bounds are gone through in order, which is then faster than to halve them.
 const FEW_BOUNDS: usize = 17;
 
-// The part in which the row k lies, where `bounds` are the first rows of the parts, and at last the row past the list: the first part
-// that ends past the row.
+// The part in which the row k lies, where `bounds` are the first rows of the parts, and at last the row past the list: the part before
+// the first that starts past the row, or else the last part.
 fn find_in_order(bounds: &[u32], k: u32) -> usize
     ensures { (e : ℕ) → Rising bounds.now e → k < e → Seated bounds.now k result }
 {
-    let Some((_, ends)) = bounds.split_first() else {
+    let [_, later @ .., _] = bounds else {
         return 0;
     };
-    ends.iter().position(|end| k < *end).unwrap_or(0)
+    later
+        .iter()
+        .position(|first| k < *first)
+        .unwrap_or(later.len())
 }
 
 // The same part, found by halving.

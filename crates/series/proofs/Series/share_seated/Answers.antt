@@ -1,4 +1,4 @@
-use Rattle.std.proofs.Common.{◌-◌, cond, ltb, Ok, sym, ◌∙◌, subst, ap}
+use Rattle.std.proofs.Common.{◌-◌, cond, ltb, get_or, Ok, sym, ◌∙◌, subst, ap}
 use Rattle.design.specs.Design.{Shared}
 use Rattle.design.specs.Fractions.{Fraction, fraction}
 use Rattle.parts.specs.Running.{is_chosen, so_far}
@@ -14,7 +14,7 @@ returns-then-self g c h =
     let st = g.D.Design.tree s.below in
     let B = g.D.Design.plan s.below in
     share_here B (g.met.D.Design.sound s.below) v c.args.k c.args.j c.requires.seated st c.share.result h.underway c.if-j-self.true
-    (subst (λ i. Shared st (c.args.k - i) c.share.result) c.first_row.ensures c.share.ensures)
+    (subst (λ firsts. Shared st (c.args.k - get_or firsts c.args.j 0) c.share.result) c.as_slice.ensures.items c.share.ensures)
 
 pub returns-else-j-self : goal.returns-else-j-self
 returns-else-j-self g c h =

@@ -1,14 +1,13 @@
 use Rattle.std.proofs.Common.{rules, arith, ◌≡◌, ℕ, ◌*◌, ◌<◌, ◌≤◌, None, Ok, Option, List, length, get_or, ◌∙◌, sym, subst}
 use Rattle.std.proofs.iter.Serving.{serving}
 use Rattle.std.proofs.lemmas.Bool.{ltb-false}
-use Rattle.std.proofs.lemmas.List.{ext_get_or}
+use Rattle.std.proofs.lemmas.List.{ext_get_or, get_or-map}
 use Rattle.design.specs.Faults.{Answers, Refusal}
 use Rattle.design.specs.Lists.{total, size_at}
 use Rattle.design.specs.declared.row.Row.{Row}
 use Rattle.design.proofs.Firsts.{accepted, first_none, no_row}
 use Rattle.methods.specs.Plain.{above_total, goal_refusal, goals}
 use Rattle.methods.proofs.Goals.{goals_long}
-use Rattle.std.proofs.lemmas.List.{get_or-map}
 use Rattle.plain.proofs.holdings.calls.note_goals.Goals as goal
 
 -- where no goal is above the total, each is at most the total
@@ -33,7 +32,7 @@ write-requires c =
 pub returns-clause-answers : goal.returns-clause-answers
 returns-clause-answers c =
     let long : length c.write.new.self ≡ length c.args.list.now = omega arith in
-    let room : length c.args.list.now ≤ length c.make_room.new.goals = omega arith in
+    let held : length c.args.list.now ≤ length c.set_length.new.goals = omega arith in
     nothing_refused (goal_refusal c.args.list.now c.args.n) (λ (u : Unit {0}). c.write.new.self ≡ goals c.args.list.now c.args.n) tt
     (accepted _ _ _ c.in_ok-check_goals.ensures).0
-    (goals_by c.args.list.now c.args.n c.write.new.self long (λ k l. let h = c.write.ensures.written room k 0 (omega arith) in search rules))
+    (goals_by c.args.list.now c.args.n c.write.new.self long (λ k l. let h = c.write.ensures.written held k 0 (omega arith) in search rules))
